@@ -1,5 +1,5 @@
 -- The laws that proofs of other crates cite. Each is the contract of the public function of its name.
-use Rattle.std.proofs.Common.{◌≡◌, ℕ, ◌<◌, ◌^◌, List, [], ◌∷◌, length, refl, arith, true, subst}
+use Rattle.std.proofs.Common.{◌≡◌, ℕ, List, [], ◌∷◌, refl, arith, true, subst, rules}
 use Rattle.std.specs.Bool.{⊤}
 use Rattle.std.specs.declared.cmp.Ordering.TheVariants.{Less, Greater}
 use Rattle.pg_schema.specs.Shape.{fields}
@@ -9,7 +9,7 @@ use Rattle.pg_dyn.specs.message.KeptParts as kept_parts
 use Rattle.pg_dyn.specs.message.Message.{Leaf, key_cmp, leaf_eq}
 use Rattle.pg_dyn.specs.message.Message as model
 use Rattle.pg_dyn.specs.laws.Bodies.{BodiesReadAgain, EntryBodiesRead, PackedBodiesRead, SingleBodiesRead}
-use Rattle.pg_dyn.specs.encoding.Encoding.{enc, encoded_parts}
+use Rattle.pg_dyn.specs.encoding.Encoding.{enc}
 use Rattle.pg_dyn.specs.encoding.Growing.{EncodingGrows}
 use Rattle.pg_dyn.specs.laws.OwnParts.{ComparandsAreWritten, ChildrenAreShorter, OneIsEmpty, OwnPartsFit, SiblingsMutual}
 use Rattle.pg_dyn.specs.laws.FieldLaws.{ContentsAreSeen, EntriesRise, EqualLeaves, FieldsAreFound, LastItems, OwnContents, PackableWires, PartsKeepTypes, PlainIsKept, RecordsOfFields, RisingEntriesStay, UnknownIsKept}
@@ -42,10 +42,7 @@ pub decoding_is : DecodingIs
 decoding_is = dec_is
 
 pub encoding_spells : EncodingSpells
-encoding_spells =
-    λ shape type m is_shape is_message fits.
-    let short : length (enc shape type m) < 2 ^ 64 = omega arith in
-    records_of-enc shape type m is_shape is_message short
+encoding_spells = search (rules, arith, records_of-enc)
 
 pub encoding_grows : EncodingGrows
 encoding_grows = Growing.encoding_grows
@@ -60,16 +57,11 @@ pub writing_splits : WritingSplits
 writing_splits = λ fs ps n rising. ((λ f found. Splitting.records_of_number ps fs n f rising found), λ none. Splitting.records_of_no_number ps fs n none)
 
 pub kept_by_field : KeptByField
-kept_by_field =
-    λ view old new a b v is_old is_new is_message plain fits.
-    let short : length (enc old a v) < 2 ^ 64 = omega arith in
-    (ByField.kept_gives view old new a b v is_old is_new is_message plain short, λ h. ByField.kept_from view old new a b v is_old is_new is_message plain short h.0 h.1 h.2)
+kept_by_field = search (rules, arith, ByField.kept_gives, ByField.kept_from)
 
 pub kept_by_comparands : KeptByComparands
 kept_by_comparands =
-    λ view old new a b v is_old is_new is_message plain fits apart.
-    let short : length (enc old a v) < 2 ^ 64 = omega arith in
-    (ByComparands.comparands_kept view old new a b v is_old is_new is_message plain short apart, ByComparands.kept_by_comparands view old new a b v is_old is_new is_message plain short apart)
+    search (rules, arith, ByComparands.comparands_kept, ByComparands.kept_by_comparands)
 
 -- ---- the parts of a message
 
@@ -77,21 +69,16 @@ pub comparands_are_written : ComparandsAreWritten
 comparands_are_written = ByComparands.comparands_written
 
 pub own_parts_fit : OwnPartsFit
-own_parts_fit = λ shape type m f is_shape is found.
-    let parts = flat_parts shape type (fields-IsType shape type is_shape) m is in
-    (Flat.each_fits (fields shape type) f found (encoded_parts shape type m) parts, Flat.in_order (fields shape type) f found (encoded_parts shape type m) parts)
+own_parts_fit = search (rules, flat_parts, fields-IsType, Flat.each_fits, Flat.in_order)
 
 pub one_is_empty : OneIsEmpty
-one_is_empty = λ shape type m f g is_shape is found_f found_g sibling.
-    Flat.one_is_empty (fields shape type) f g found_f found_g sibling (encoded_parts shape type m) (flat_parts shape type (fields-IsType shape type is_shape) m is)
+one_is_empty = search (rules, Flat.one_is_empty, flat_parts, fields-IsType)
 
 pub siblings_mutual : SiblingsMutual
 siblings_mutual = (Flat.same_oneof_sym, Flat.is_sibling_sym, Flat.sibling_apart)
 
 pub children_are_shorter : ChildrenAreShorter
-children_are_shorter = λ shape type m is_shape is within.
-    let short : length (enc shape type m) < 2 ^ 64 = omega (arith, within) in
-    children_shorter shape type m is (is_flat shape type (fields-IsType shape type is_shape) m is short)
+children_are_shorter = search (rules, arith, children_shorter, is_flat, fields-IsType)
 
 -- ---- bodies that are read as items
 
@@ -105,8 +92,7 @@ pub single_bodies_read : SingleBodiesRead
 single_bodies_read = λ f xs reads. Plain.singles_read f.element (λ (x : List ℕ × Leaf). x.0) (λ (x : List ℕ × Leaf). x.1) f refl xs reads
 
 pub entry_bodies_read : EntryBodiesRead
-entry_bodies_read = λ key e k v reads_key reads_value nested fits.
-    (records_of_entry key e k v reads_key reads_value nested fits, λ number. entry_read key e k v reads_key reads_value nested number fits)
+entry_bodies_read = search (rules, records_of_entry, entry_read)
 
 pub packable_wires : PackableWires
 packable_wires = Plain.packable_wire

@@ -1,5 +1,5 @@
 -- What a writer is asked of a field's parts, and what it notes and writes of them: as entries of a map, as items and as numbers.
-use Rattle.std.proofs.Common.{◌≡◌, ◌++◌, ℕ, List, length, map, flat_map, Bool, true, false, Result, IfErr, IfOk, ap, sym, subst, ◌∙◌}
+use Rattle.std.proofs.Common.{◌≡◌, ◌++◌, ℕ, List, length, map, flat_map, Bool, true, false, Result, IfErr, IfOk, ap, sym, subst, ◌∙◌, rules}
 use Rattle.std.specs.List.{AllByRecursion}
 use Rattle.pg_schema.specs.declared.parts.field.Element.TheVariants as elements
 use Rattle.pg_schema.specs.declared.parts.field.Presence.TheVariants as presences
@@ -29,14 +29,11 @@ pub record Says (shape : Shape) (f : FieldShape) (ps : List (Part KeptItem)) (no
 module _ {shape : Shape} {f : FieldShape} {ps : List (Part KeptItem)} {noted bytes : List ℕ} (says : Says shape f ps noted bytes) where
   pub adds : {A E : Type 0} (r : Result A E) (left : A → List ℕ) (lengths before after : List ℕ) → IfOk r (λ x. Adds lengths noted before bytes after (left x))
       → IfOk r (λ x. Adds lengths (field_lengths shape f ps) before (field_written shape f ps) after (left x))
-  adds r left lengths before after h =
-      subst (λ k. IfOk r (λ x. Adds lengths k before (field_written shape f ps) after (left x))) says.noted_are
-      (subst (λ bs. IfOk r (λ x. Adds lengths noted before bs after (left x))) says.bytes_are h)
+  adds r left lengths before after h = search rules
 
   pub may_not : {A : Type 0} (r : Result A DynError) (lengths : List ℕ) → IfErr r (MayNotAdd lengths noted bytes)
       → IfErr r (MayNotAdd lengths (field_lengths shape f ps) (field_written shape f ps))
-  may_not r lengths h =
-      subst (λ k. IfErr r (MayNotAdd lengths k (field_written shape f ps))) says.noted_are (subst (λ bs. IfErr r (MayNotAdd lengths noted bs)) says.bytes_are h)
+  may_not r lengths h = search rules
 
   pub counted : {E : Type 0} (r : Result ℕ E) → IfOk r (λ len. len ≡ capped (length bytes)) → IfOk r (λ len. len ≡ capped (length (field_written shape f ps)))
   counted r h = subst (λ bs. IfOk r (λ len. len ≡ capped (length bs))) says.bytes_are h
@@ -75,20 +72,17 @@ module _ {V : Type 0} (item : V → Bare) (shape : Shape) (f : FieldShape) (vs :
 
   pub items : is_map f.presence ≡ false → AllByRecursion (IsPartOf shape f) ps → (AreKeyless ps → (l : Bool) × (ps ≡ map (item_part item f.number l) vs)) → Items
   items single fit parts =
-      let (l, are) = parts (keyless shape f ps single fit) in
-      let fits = values_fit item shape f f.number l vs (subst (AllByRecursion (IsPartOf shape f)) are fit) in
-      record {
-        fit = fits;
-        weigh = ap parts_weight are ∙ items_weigh item f.number l vs;
-        singly = λ packed. record {
-          noted_are = sym (ap (field_lengths shape f) are ∙ items_noted item shape f l vs packed);
-          bytes_are = sym (ap (field_written shape f) are ∙ items_written item shape f l vs packed single);
-        };
-        packed = λ packed can. record {
-          noted_are = sym (ap (field_lengths shape f) are ∙ packed_noted item shape f l vs packed);
-          bytes_are = sym (ap (field_written shape f) are ∙ packed_written item shape f l vs packed can fits);
-        };
-      }
+      search (
+        rules,
+        keyless,
+        values_fit,
+        parts_weight,
+        items_weigh,
+        items_noted,
+        items_written,
+        packed_noted,
+        packed_written,
+      )
 
 module _ (shape : Shape) (f : FieldShape) (ns : NumberList) (ps : List (Part KeptItem)) where
   pub record Numbers (packed : Bool) (scalar : Scalar) : Type 0 where

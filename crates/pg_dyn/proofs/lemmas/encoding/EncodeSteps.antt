@@ -1,5 +1,5 @@
 -- The bytes and the lengths of a message, content by content.
-use Rattle.std.proofs.Common.{◌⊎◌, ⊎_elim, inl, inr, nat_lt, ◌≡◌, ◌≢◌, ℕ, zero, suc, ◌+◌, ◌-◌, ◌<◌, ◌≤◌, List, [], ◌∷◌, ◌++◌, length, take, drop, get_or, map, flat_map, Bool, true, false, cond, Option, Some, None, Result, Ok, Err, IfOk, OnOk, refl, ap, ap₂, sym, subst, ◌∙◌, arith, add-one, append_assoc, length-append}
+use Rattle.std.proofs.Common.{◌⊎◌, ⊎_elim, inl, inr, ◌≡◌, ◌≢◌, ℕ, zero, suc, ◌+◌, ◌-◌, ◌<◌, ◌≤◌, List, [], ◌∷◌, ◌++◌, length, take, drop, get_or, map, flat_map, Bool, true, false, Option, Some, None, Result, Ok, Err, IfOk, OnOk, refl, ap, ap₂, sym, subst, ◌∙◌, arith, add-one, append_assoc, length-append, rules}
 use Rattle.std.proofs.lemmas.List.{append-nil}
 use Rattle.std.proofs.Common.{take_all}
 use Rattle.std.proofs.lemmas.Bool.{ltb-true, ltb-false}
@@ -20,9 +20,8 @@ use Rattle.pg_dyn.specs.message.Message.{Leaf, Part}
 use Rattle.pg_dyn.specs.fitting.Belonging.{KeyFits}
 use Rattle.pg_dyn.specs.fitting.Belonging as belonging
 use Rattle.pg_dyn.specs.word.Coding.{InRange, body, form, scalar_form}
-use Rattle.pg_dyn.specs.encoding.Encoding.{enc}
 use Rattle.pg_dyn.specs.fitting.Fits.{Fits}
-use Rattle.pg_dyn.specs.message.Kept.{Kept, ends, message_of, type_of}
+use Rattle.pg_dyn.specs.message.Kept.{Kept, ends, type_of}
 use Rattle.pg_dyn.specs.message.KeptParts.{AreOf, KeptItem, Msg, parts_of, Plain, unknown_of}
 use Rattle.pg_dyn.specs.encoding.Lending.{AreKeyed, AreKeyless, Bare, Child, HoldsParts, IsLone, Lone, bare, bare_leaf, entry_part, in_list, item_part}
 use Rattle.pg_dyn.specs.message.Replacing.{all_parts, kept_onto}
@@ -51,11 +50,7 @@ pub longer : (m n : ℕ) (e : DynError) → m ≤ n → MayNotWrite m e → MayN
 longer m n e within why = ⊎_elim inl (λ told. inr (told.0, omega (arith, told.1, within))) why
 
 pub small_or_big : (n m : ℕ) → (n ≤ m) ⊎ (m < n)
-small_or_big n m = of (nat_lt m n) refl
-  where
-    of : (b : Bool) → nat_lt m n ≡ b → (n ≤ m) ⊎ (m < n)
-    of true e = inr (ltb-true m n e)
-    of false e = inl (ltb-false m n e)
+small_or_big n m = search (rules, ltb-true, ltb-false)
 
 -- one more of a row, and what is left
 module _ {X : Type 0} (b : X → List ℕ) where
@@ -76,8 +71,7 @@ module _ {X : Type 0} (b : X → List ℕ) where
   counted_all xs ys i total same past counted = counted ∙ ap (λ zs. capped (length (flat_map b zs))) (take_all i xs past ∙ same)
 
   pub listed_more : (xs : List X) (i : ℕ) (x : X) (before so_far new : List ℕ) → i < length xs → x ≡ get_or xs i x → so_far ≡ before ++ flat_map b (take i xs) → new ≡ so_far ++ b x → new ≡ before ++ flat_map b (take (i + 1) xs)
-  listed_more xs i x before so_far new inside is was added =
-      added ∙ ap (λ zs. zs ++ b x) was ∙ append_assoc before (flat_map b (take i xs)) (b x) ∙ ap (λ zs. before ++ zs) (sym (row_more xs i x inside is))
+  listed_more xs i x before so_far new inside is was added = search (rules, append_assoc, row_more)
 
   pub listed_all : (xs ys : List X) (i : ℕ) (before so_far : List ℕ) → xs ≡ ys → length xs ≤ i → so_far ≡ before ++ flat_map b (take i xs) → so_far ≡ before ++ flat_map b ys
   listed_all xs ys i before so_far same past was = was ∙ ap (λ zs. before ++ flat_map b zs) (take_all i xs past ∙ same)
@@ -129,9 +123,7 @@ pub first_is : (ls : List ℕ) (x : ℕ) (later : List ℕ) → ls ≡ x ∷ lat
 first_is ls x later e = ap (λ l. get_or l 0 0) e
 
 pub later_is : (ls : List ℕ) (x : ℕ) (later : List ℕ) → ls ≡ x ∷ later → take (length ls - 1) (drop 1 ls) ≡ later
-later_is ls x later e =
-    let shorter : length (x ∷ later) - 1 ≡ length later = omega arith in
-    ap (λ l. take (length l - 1) (drop 1 l)) e ∙ ap (λ k. take k later) shorter ∙ take_all (length later) later (omega arith)
+later_is ls x later e = search (rules, arith, take_all)
 
 -- what a call that may fail says, said otherwise
 
@@ -163,9 +155,7 @@ bare_seen l (Lone text leaf) = refl
 bare_seen l (Child m) = refl
 
 leaf_of_element : (n : ℕ) (p : Presence) (e : Element) (o : Option ℕ) (leaf : Leaf) → belonging.LeafFits (record { number = n; presence = p; element = e; oneof = o }) leaf → IsLeafOf e leaf
-leaf_of_element n p (elements.Scalar s) o leaf h = h.0
-leaf_of_element n p (elements.Enum t) o leaf h = h.0
-leaf_of_element n p (elements.Message t) o leaf h = absurd h
+leaf_of_element n p e o leaf h = grind arith
 
 bare_of : (shape : Shape) (f : FieldShape) (l : Bool) (x : Bare) → HoldsItem shape f (in_list l x) → BareFits shape f.element x
 bare_of shape f l (Lone text leaf) h = leaf_of_element f.number f.presence f.element f.oneof leaf h.2
@@ -198,26 +188,19 @@ packed_no_lengths item shape (v ∷ vs) h = ap₂ (λ xs ys. xs ++ ys) (lone_len
 
 -- only the parts of a map have keys
 keyless_by : (p : Presence) (k : Option Leaf) → is_map p ≡ false → KeyFits p k → k ≡ None
-keyless_by presences.Implicit k single h = h
-keyless_by presences.Explicit k single h = h
-keyless_by (presences.Repeated packed) k single h = h
-keyless_by (presences.Map key) k single h = absurd (cc)
+keyless_by p k single h = grind arith
 
 pub keyless : (shape : Shape) (f : FieldShape) (ps : List (Part KeptItem)) → is_map f.presence ≡ false → AllByRecursion (IsPartOf shape f) ps → AreKeyless ps
 keyless shape f ps single h = each_weaker (IsPartOf shape f) (λ (p : Part KeptItem). p.key ≡ None) (λ p k. keyless_by f.presence p.key single k.key_fits) ps h
 
 pub keyed : (shape : Shape) (f : FieldShape) (key : Scalar) (ps : List (Part KeptItem)) → f.presence ≡ presences.Map key → AllByRecursion (IsPartOf shape f) ps → AreKeyed ps
-keyed shape f key ps is h =
-    each_weaker (IsPartOf shape f) (λ (p : Part KeptItem). p.key ≢ None) (λ p k e. absurd (subst (KeyFits (presences.Map key)) e (subst (λ x. KeyFits x p.key) is k.key_fits))) ps h
+keyed shape f key ps is h = search (rules, each_weaker)
 
 pub lone_of_part : (shape : Shape) (f : FieldShape) (ps : List (Part KeptItem)) → is_packable f.element ≡ true → AllByRecursion (IsPartOf shape f) ps → AllByRecursion (λ (p : Part KeptItem). IsLone (bare p.item)) ps
 lone_of_part shape f ps can h = each_weaker (IsPartOf shape f) (λ (p : Part KeptItem). IsLone (bare p.item)) (λ p k. packed_lone shape f.element (bare p.item) can (bare_held shape f p.item k.item)) ps h
 
 packed_is : (p : Presence) → is_packed p ≡ true → p ≡ presences.Repeated true
-packed_is presences.Implicit h = absurd (cc)
-packed_is presences.Explicit h = absurd (cc)
-packed_is (presences.Repeated packed) h = ap presences.Repeated h
-packed_is (presences.Map key) h = absurd (cc)
+packed_is p h = grind arith
 
 -- the records of a field, by its presence
 module _ (n : ℕ) (e : Element) (o : Option ℕ) (ps : List (Part Leaf)) where
@@ -225,11 +208,7 @@ module _ (n : ℕ) (e : Element) (o : Option ℕ) (ps : List (Part Leaf)) where
   each_record = map (λ (p : Part Leaf). item_record n e p.item) ps
 
   unpacked_records : (p : Presence) → is_packed p ≡ false → is_map p ≡ false → field_records (record { number = n; presence = p; element = e; oneof = o }) ps ≡ each_record
-  unpacked_records presences.Implicit packed single = refl
-  unpacked_records presences.Explicit packed single = refl
-  unpacked_records (presences.Repeated true) packed single = absurd (cc)
-  unpacked_records (presences.Repeated false) packed single = refl
-  unpacked_records (presences.Map key) packed single = absurd (cc)
+  unpacked_records p packed single = grind arith
 
 module _ {V : Type 0} (item : V → Bare) (shape : Shape) where
   pub values_fit : (f : FieldShape) (n : ℕ) (l : Bool) (vs : List V) → AllByRecursion (IsPartOf shape f) (map (item_part item n l) vs) → AllByRecursion (λ v. BareFits shape f.element (item v)) vs
@@ -237,8 +216,7 @@ module _ {V : Type 0} (item : V → Bare) (shape : Shape) where
   values_fit f n l (v ∷ vs) h = (bare_of shape f l (item v) h.0.item, values_fit f n l vs h.1)
 
   pub leaves_fit : (e : Element) (vs : List V) → is_packable e ≡ true → AllByRecursion (λ v. BareFits shape e (item v)) vs → LeavesFit item e vs
-  leaves_fit e vs can h =
-      each_weaker (λ v. BareFits shape e (item v)) (λ v. IsLeafOf e (bare_leaf (item v))) (λ v k. lone_fits shape e (item v) (packed_lone shape e (item v) can k) k) vs h
+  leaves_fit e vs can h = search (rules, each_weaker, lone_fits, packed_lone)
 
   all_lone : (e : Element) (vs : List V) → is_packable e ≡ true → AllByRecursion (λ v. BareFits shape e (item v)) vs → AllByRecursion (λ v. IsLone (item v)) vs
   all_lone e vs can h = each_weaker (λ v. BareFits shape e (item v)) (λ v. IsLone (item v)) (λ v k. packed_lone shape e (item v) can k) vs h
@@ -252,11 +230,7 @@ module _ {V : Type 0} (item : V → Bare) (shape : Shape) where
       ap bytes_of (unpacked_records f.number f.element f.oneof (map (written_part shape) (map (item_part item f.number l) vs)) f.presence packed single) ∙ each_written f.number f.element l vs
 
   pub items_noted : (f : FieldShape) (l : Bool) (vs : List V) → is_packed f.presence ≡ false → field_lengths shape f (map (item_part item f.number l) vs) ≡ flat_map (λ v. item_lengths shape (item v)) vs
-  items_noted f l vs packed =
-      ap (λ b. cond b (packed_lengths (λ (p : Part KeptItem). bare p.item) f.element (map (item_part item f.number l) vs)) (flat_map (λ (p : Part KeptItem). item_lengths shape (bare p.item)) (map (item_part item f.number l) vs))) packed
-      ∙ flat_map-map (λ (p : Part KeptItem). item_lengths shape (bare p.item)) (item_part item f.number l) vs
-      ∙ flat_map_same (λ v. item_lengths shape (bare (in_list l (item v)))) (λ v. item_lengths shape (item v)) vs
-      (each_of_all (λ v. item_lengths shape (bare (in_list l (item v))) ≡ item_lengths shape (item v)) (λ v. ap (item_lengths shape) (bare_seen l (item v))) vs)
+  items_noted f l vs packed = search (rules, flat_map-map, flat_map_same, each_of_all, bare_seen)
 
   bodies_written : (n : ℕ) (e : Element) (l : Bool) (vs : List V) → AllByRecursion (λ v. IsLone (item v)) vs
       → flat_map (λ (q : Part Leaf). body (form e) q.item) (map (written_part shape) (map (item_part item n l) vs)) ≡ packed_body item e vs
@@ -284,9 +258,7 @@ module _ {V : Type 0} (item : V → Bare) (shape : Shape) where
   row_noted n e l (v ∷ vs) = ap (λ b. capped (length b) ∷ []) (bodies_noted n e l (v ∷ vs))
 
   pub packed_noted : (f : FieldShape) (l : Bool) (vs : List V) → is_packed f.presence ≡ true → field_lengths shape f (map (item_part item f.number l) vs) ≡ packed_lengths item f.element vs
-  packed_noted f l vs packed =
-      ap (λ b. cond b (packed_lengths (λ (q : Part KeptItem). bare q.item) f.element (map (item_part item f.number l) vs)) (flat_map (λ (q : Part KeptItem). item_lengths shape (bare q.item)) (map (item_part item f.number l) vs))) packed
-      ∙ row_noted f.number f.element l vs
+  packed_noted f l vs packed = search (rules, row_noted)
 
 -- a map's entries
 module _ {V E : Type 0} (item : V → Bare) (key_of value_of : E → V) (shape : Shape) where
@@ -311,26 +283,14 @@ module _ {V E : Type 0} (item : V → Bare) (key_of value_of : E → V) (shape :
       ∙ map_written f.number key f.element f.oneof es
 
   pub entries_noted : (f : FieldShape) (key : Scalar) (es : List E) → f.presence ≡ presences.Map key → field_lengths shape f (map (entry_part item key_of value_of f.number) es) ≡ flat_map (λ e. item_lengths shape (item (value_of e))) es
-  entries_noted f key es is =
-      ap (λ p. cond (is_packed p) (packed_lengths (λ (q : Part KeptItem). bare q.item) f.element (map (entry_part item key_of value_of f.number) es)) (flat_map (λ (q : Part KeptItem). item_lengths shape (bare q.item)) (map (entry_part item key_of value_of f.number) es))) is
-      ∙ flat_map-map (λ (q : Part KeptItem). item_lengths shape (bare q.item)) (entry_part item key_of value_of f.number) es
-      ∙ flat_map_same (λ e. item_lengths shape (bare (in_list false (item (value_of e))))) (λ e. item_lengths shape (item (value_of e))) es
-      (each_of_all (λ e. item_lengths shape (bare (in_list false (item (value_of e)))) ≡ item_lengths shape (item (value_of e))) (λ e. ap (item_lengths shape) (bare_seen false (item (value_of e)))) es)
+  entries_noted f key es is = search (rules, flat_map-map, flat_map_same, each_of_all, bare_seen)
 
 -- only what can be packed is
 pub can_be_packed : (p : Presence) (e : Element) (o : Option ℕ) → PresenceFits p e o → CanBePacked p e
-can_be_packed presences.Implicit e o h = tt
-can_be_packed presences.Explicit e o h = tt
-can_be_packed (presences.Repeated true) e o h = h.1 refl
-can_be_packed (presences.Repeated false) e o h = tt
-can_be_packed (presences.Map key) e o h = tt
+can_be_packed p e o h = grind arith
 
 pub packable : (p : Presence) (e : Element) → is_packed p ≡ true → CanBePacked p e → is_packable e ≡ true
-packable presences.Implicit e packed h = absurd (cc)
-packable presences.Explicit e packed h = absurd (cc)
-packable (presences.Repeated true) e packed h = h
-packable (presences.Repeated false) e packed h = absurd (cc)
-packable (presences.Map key) e packed h = absurd (cc)
+packable p e packed h = grind arith
 
 -- a field's number and what it may be packed
 module _ (shape : Shape) (type : TypeId) where
@@ -346,14 +306,8 @@ module _ (shape : Shape) (type : TypeId) where
   -- the parts of a number are held by its field
   parts_fit : (f : FieldShape) (n : ℕ) (ps : List (Part KeptItem)) → field_at (fields shape type) n ≡ Some f → AllByRecursion (HoldsPart shape type) ps → AreOf n ps → AllByRecursion (IsPartOf shape f) ps
   parts_fit f n [] found h numbered = tt
-  parts_fit f n (p ∷ ps) found h numbered = (
-    record {
-      number_is = numbered.0 ∙ sym (found_number (fields shape type) n f found);
-      key_fits = subst (λ (g : FieldShape). KeyFits g.presence p.key) (part_field f n p found h.0 numbered.0) h.0.key;
-      item = subst (λ g. HoldsItem shape g p.item) (part_field f n p found h.0 numbered.0) h.0.item;
-    },
-    parts_fit f n ps found h.1 numbered.1,
-  )
+  parts_fit f n (p ∷ ps) found h numbered =
+      search (rules, found_number, part_field, parts_fit f n ps found h.1 numbered.1)
 
   held_parts : (n : ℕ) (ps : List (Part KeptItem)) → AllByRecursion (HoldsPart shape type) ps → ps ≢ [] → AreOf n ps → HoldsParts shape type n ps
   held_parts n [] h filled numbered = absurd (filled refl)
@@ -366,9 +320,7 @@ module _ (shape : Shape) (type : TypeId) where
 
   pub flat_bytes : {C : Type 0} (row : ℕ × C → List (Part Leaf)) (xs : List (ℕ × C)) → bytes_of (by_fields row (fields shape type) xs) ≡ flat_map (λ (m : ℕ × C). bytes_of (records_by (field_at (fields shape type) m.0) (row m))) xs
   flat_bytes row [] = refl
-  flat_bytes row (x ∷ xs) =
-      flat_map-append' (λ (r : WireRecord). r.bytes) (records_by (field_at (fields shape type) x.0) (row x)) (by_fields row (fields shape type) xs)
-      ∙ ap (λ ys. bytes_of (records_by (field_at (fields shape type) x.0) (row x)) ++ ys) (flat_bytes row xs)
+  flat_bytes row (x ∷ xs) = search (rules, flat_map-append', by_fields, flat_bytes row xs)
 
 -- The contents of a message, whatever a content is.
 module _ {C : Type 0} (parts : ℕ → C → List (Part KeptItem)) (shape : Shape) (m : Kept) where
@@ -385,24 +337,18 @@ module _ {C : Type 0} (parts : ℕ → C → List (Part KeptItem)) (shape : Shap
   pub contents_held : (ms : List (ℕ × C)) → IsShape shape → Fits shape m → m ≡ kept_onto (all_parts parts ms) (ends (type_of m) (unknown_of m)) → AllByRecursion (λ (c : ℕ × C). parts c.0 c.1 ≢ []) ms
       → AllByRecursion (λ (c : ℕ × C). AreOf c.0 (parts c.0 c.1)) ms → HeldContents ms
   contents_held ms is_shape fits whole filled numbered =
-      let parts_are : parts_of m ≡ all_parts parts ms = ap parts_of whole ∙ parts_of-kept_onto (all_parts parts ms) (ends (type_of m) (unknown_of m)) ∙ append-nil (all_parts parts ms) in
-      each_held ms (subst (AllByRecursion (HoldsPart shape (type_of m))) parts_are (parts_hold shape m is_shape fits)) filled numbered
+      search (rules, parts_of-kept_onto, append-nil, each_held, parts_hold)
 
   abbrev pub content_bytes : ℕ × C → List ℕ
   content_bytes c = parts_written shape (type_of m) c.0 (parts c.0 c.1)
 
   pub field_bytes : (c : ℕ × C) (f : FieldShape) → field_at (fields shape (type_of m)) c.0 ≡ Some f → field_written shape f (parts f.number c.1) ≡ content_bytes c
-  field_bytes c f found =
-      ap (λ k. field_written shape f (parts k c.1)) (found_number (fields shape (type_of m)) c.0 f found)
-      ∙ ap (λ o. bytes_of (records_by o (map (written_part shape) (parts c.0 c.1)))) (sym found)
+  field_bytes c f found = search (rules, found_number)
 
   -- what its field's content asks, where it is found by its number
   pub field_fits : (c : ℕ × C) (f : FieldShape) → field_at (fields shape (type_of m)) c.0 ≡ Some f → HoldsParts shape (type_of m) c.0 (parts c.0 c.1) → AllByRecursion (IsPartOf shape f) (parts f.number c.1)
-  field_fits c f found held =
-      subst (λ k. AllByRecursion (IsPartOf shape f) (parts k c.1)) (sym (found_number (fields shape (type_of m)) c.0 f found)) (same_parts shape (type_of m) f c.0 (parts c.0 c.1) held found)
+  field_fits c f found held = search (rules, found_number, same_parts)
 
   pub own_is : (ms : List (ℕ × C)) → IsShape shape → m ≡ kept_onto (all_parts parts ms) (ends (type_of m) (unknown_of m)) → Rises ms → HeldContents ms → flat_map content_bytes ms ++ bytes_of (unknown_of m) ≡ own_bytes shape m
   own_is ms is_shape whole rises held =
-      sym (ap (λ k. enc shape (type_of m) (message_of k)) whole
-      ∙ encodes_by_fields parts shape (type_of m) ms (unknown_of m) (fields-IsType shape (type_of m) is_shape).rising rises held
-      ∙ ap (λ xs. xs ++ bytes_of (unknown_of m)) (flat_bytes shape (type_of m) (written_row parts shape (type_of m)) ms))
+      search (rules, encodes_by_fields, fields-IsType, flat_bytes, written_row)

@@ -1,5 +1,5 @@
 -- An encoding goes over the fields of a message.
-use Rattle.std.proofs.Common.{true, false, ◌≡◌, ◌≢◌, ℕ, ◌<◌, List, [], ◌∷◌, ◌++◌, map, filter, flat_map, Option, Some, None, cond, refl, ap, sym, subst, ◌∙◌, ⊎_elim, arith, eq-eqb, ne_eqb, append_assoc}
+use Rattle.std.proofs.Common.{true, ◌≡◌, ◌≢◌, ℕ, ◌<◌, List, [], ◌∷◌, ◌++◌, map, filter, flat_map, Option, Some, cond, refl, ap, sym, subst, ◌∙◌, ⊎_elim, arith, eq-eqb, ne_eqb, append_assoc, rules}
 use Rattle.std.specs.List.{AllByRecursion}
 use Rattle.std.proofs.lemmas.Bool.{cases_eq}
 use Rattle.std.proofs.lemmas.List.{append-nil}
@@ -45,8 +45,7 @@ module _ (shape : Shape) (type : TypeId) where
 
 -- the parts that a field holds are of its number
 pub held_numbered : (shape : Shape) (type : TypeId) (n : ℕ) (ps : List (Part KeptItem)) → HoldsParts shape type n ps → AreOf n ps
-held_numbered shape type n ps h =
-    each_weaker (IsPartOf shape h.field) (λ (p : Part KeptItem). p.number ≡ n) (λ p k. k.number_is ∙ found_number (fields shape type) n h.field h.found) ps h.each
+held_numbered shape type n ps h = search (rules, each_weaker, found_number)
 
 -- Rows of parts, each of one number.
 module _ {C : Type 0} (row : ℕ × C → List (Part Leaf)) where
@@ -57,23 +56,18 @@ module _ {C : Type 0} (row : ℕ × C → List (Part Leaf)) where
   own_parts m h = filter_all (is_of m.0) (row m) (each_weaker (λ (q : Part Leaf). q.number ≡ m.0) (λ (q : Part Leaf). is_of m.0 q ≡ true) (λ q e. eq-eqb q.number m.0 e) (row m) h)
 
   pub other_parts : (m : ℕ × C) (k : ℕ) → m.0 ≢ k → IsNumbered m → filter (is_of k) (row m) ≡ []
-  other_parts m k apart h =
-      filter_none (is_of k) (row m) (each_weaker (λ (q : Part Leaf). q.number ≡ m.0) (λ (q : Part Leaf). is_of k q ≡ false) (λ q e. ne_eqb q.number k (λ same. apart (sym e ∙ same))) (row m) h)
+  other_parts m k apart h = search (rules, filter_none, each_weaker, ne_eqb)
 
   none_of : (k : ℕ) (ms : List (ℕ × C)) → AllByRecursion (λ (m : ℕ × C). k < m.0) ms → AllByRecursion IsNumbered ms → filter (is_of k) (flat_map row ms) ≡ []
   none_of k [] h numbered = refl
   none_of k (m ∷ ms) h numbered =
-      let apart : m.0 ≢ k = λ e. absurd (let low = h.0 in omega arith) in
-      filter-append' (is_of k) (row m) (flat_map row ms) ∙ rw (other_parts m k apart numbered.0, none_of k ms h.1 numbered.1)
+      search (rules, arith, filter-append', other_parts, none_of k ms h.1 numbered.1)
 
   -- parts of a lower number don't matter to later fields
   skipped : (fs : List FieldShape) (m : ℕ × C) (ps : List (Part Leaf)) → IsNumbered m → AllByRecursion (λ f. m.0 < f.number) fs → records_in fs (row m ++ ps) ≡ records_in fs ps
   skipped [] m ps numbered h = refl
   skipped (f ∷ fs) m ps numbered h =
-      let apart : m.0 ≢ f.number = λ e. absurd (let low = h.0 in omega arith) in
-      let here : filter (is_of f.number) (row m ++ ps) ≡ filter (is_of f.number) ps =
-      filter-append' (is_of f.number) (row m) ps ∙ ap (λ xs. xs ++ filter (is_of f.number) ps) (other_parts m f.number apart numbered) in
-      rw (here, skipped fs m ps numbered h.1)
+      search (rules, arith, filter-append', other_parts, skipped fs m ps numbered h.1)
 
   abbrev pub IsFound : List FieldShape → ℕ × C → Type 0
   IsFound fs m = (g : FieldShape) × (field_at fs m.0 ≡ Some g)
@@ -89,15 +83,11 @@ module _ {C : Type 0} (row : ℕ × C → List (Part Leaf)) where
   -- the first schema field doesn't matter to later numbers
   later_fields : (f : FieldShape) (fs : List FieldShape) (ms : List (ℕ × C)) → AllByRecursion (λ (m : ℕ × C). f.number < m.0) ms → by_fields (f ∷ fs) ms ≡ by_fields fs ms
   later_fields f fs [] h = refl
-  later_fields f fs (m ∷ ms) h =
-      let apart : f.number ≢ m.0 = λ e. absurd (let low = h.0 in omega arith) in
-      rw (ne_eqb f.number m.0 apart) (ap (λ rs. records_by (field_at fs m.0) (row m) ++ rs) (later_fields f fs ms h.1))
+  later_fields f fs (m ∷ ms) h = search (rules, arith, ne_eqb, later_fields f fs ms h.1)
 
   later_found : (f : FieldShape) (fs : List FieldShape) (ms : List (ℕ × C)) → AllByRecursion (λ (m : ℕ × C). f.number < m.0) ms → AllByRecursion (IsFound (f ∷ fs)) ms → AllByRecursion (IsFound fs) ms
   later_found f fs [] h k = tt
-  later_found f fs (m ∷ ms) h k =
-      let apart : f.number ≢ m.0 = λ e. absurd (let low = h.0 in omega arith) in
-      ((k.0.0, found_later f k.0.0 fs m.0 apart k.0.1), later_found f fs ms h.1 k.1)
+  later_found f fs (m ∷ ms) h k = search (rules, arith, found_later, later_found f fs ms h.1 k.1)
 
   above_all : (k : ℕ) (m : ℕ × C) (ms : List (ℕ × C)) → k < m.0 → AllByRecursion (λ (x : ℕ × C). m.0 < x.0) ms → AllByRecursion (λ (x : ℕ × C). k < x.0) ms
   above_all k m ms low h = each_weaker (λ (x : ℕ × C). m.0 < x.0) (λ (x : ℕ × C). k < x.0) (λ x high. let k_below : k < x.0 = omega arith in k_below) ms h
@@ -105,10 +95,7 @@ module _ {C : Type 0} (row : ℕ × C → List (Part Leaf)) where
   -- the records of an encoding are those of the rows, field by field
   pub merged : (fs : List FieldShape) (ms : List (ℕ × C)) → Rising fs → Rises ms → AllByRecursion IsNumbered ms → AllByRecursion (IsFound fs) ms → records_in fs (flat_map row ms) ≡ by_fields fs ms
   merged fs [] rising rises numbered found = records_in_none fs
-  merged [] (m ∷ ms) rising rises numbered found = absurd (none found.0.0 found.0.1)
-    where
-      none : (g : FieldShape) → ◌≡◌ {A = Option FieldShape} None (Some g) → ⊥
-      none g e = cc
+  merged [] (m ∷ ms) rising rises numbered found = search rules
   merged (f ∷ fs) (m ∷ ms) rising rises numbered found =
       ⊎_elim (at_field (merged fs ms rising.1 rises.1 numbered.1)) (past_field (merged fs (m ∷ ms) rising.1 rises numbered)) (cases_eq f.number m.0)
     where

@@ -1,5 +1,5 @@
 -- An encoding grows by one record where a part is put after the others.
-use Rattle.std.proofs.Common.{◌≡◌, ◌≢◌, ℕ, ◌<◌, ◌≤◌, ◌⊎◌, inl, inr, ⊎_elim, List, [], ◌∷◌, ◌++◌, map, filter, true, false, Option, Some, None, refl, ap, ap₂, sym, ◌∙◌, subst, arith, eq-eqb, ne_eqb, append-nil, append_assoc}
+use Rattle.std.proofs.Common.{◌≡◌, ◌≢◌, ℕ, ◌<◌, ◌≤◌, ◌⊎◌, ⊎_elim, List, [], ◌∷◌, ◌++◌, map, filter, false, Option, Some, None, refl, ap, ap₂, sym, ◌∙◌, subst, arith, eq-eqb, ne_eqb, append-nil, append_assoc, rules}
 use Rattle.std.specs.List.{AllByRecursion}
 use Rattle.std.proofs.lemmas.Bool.{cases_eq}
 use Rattle.std.proofs.lemmas.List.{map-append}
@@ -12,11 +12,10 @@ use Rattle.pg_schema.specs.ShapeRules.{Rising}
 use Rattle.pg_wire.specs.Records.{WireRecord}
 use Rattle.pg_dyn.specs.message.Message.{Leaf, Bytes, Item, Plain, Msg, Message, ends, Part, Place, place_of, is_of, message_from, places, with_part}
 use Rattle.pg_dyn.specs.fitting.Belonging.{KeyFits, MayFollow, ComesBefore, IsAlone, IsPart, IsMessage}
-use Rattle.pg_dyn.specs.reading.Content.{is_sibling}
 use Rattle.pg_dyn.specs.encoding.Writing.{item_record, field_records, records_in, bytes_of}
-use Rattle.pg_dyn.specs.encoding.Encoding.{child_type, element_type, encoded_parts, enc}
+use Rattle.pg_dyn.specs.encoding.Encoding.{child_type, encoded_parts, enc}
 use Rattle.pg_dyn.specs.encoding.Growing.{leaf_for, IsOfField, keyless, ComesLast, EncodingGrows}
-use Rattle.pg_dyn.proofs.Lists.{each_weaker, each-append, each-map, filter-append', filter_all, filter_none, flat_map-append'}
+use Rattle.pg_dyn.proofs.Lists.{each_weaker, each-append, each-map, filter-append', filter_none, flat_map-append'}
 use Rattle.pg_dyn.proofs.lemmas.fitting.Belonging.{child_type_is, fields-IsType}
 use Rattle.pg_dyn.proofs.lemmas.reading.Fields.{field_of}
 use Rattle.pg_dyn.proofs.lemmas.reading.records.ReadSplits.{parts-message_from}
@@ -29,11 +28,7 @@ use Rattle.pg_dyn.proofs.lemmas.reading.records.Splitting.{field_records_none, f
 -- of a field whose items are in a record each
 field_grows : (number : ℕ) (p : Presence) (e : Element) (oneof : Option ℕ) (qs : List (Part Leaf)) (q : Part Leaf) → (p ≡ presences.Explicit) ⊎ (p ≡ presences.Repeated false)
     → field_records (field_of number p e oneof) (qs ++ q ∷ []) ≡ field_records (field_of number p e oneof) qs ++ item_record number e q.item ∷ []
-field_grows number presences.Explicit e oneof qs q h = map-append (λ (x : Part Leaf). item_record number e x.item) qs (q ∷ [])
-field_grows number (presences.Repeated false) e oneof qs q h = map-append (λ (x : Part Leaf). item_record number e x.item) qs (q ∷ [])
-field_grows number (presences.Repeated true) e oneof qs q h = ⊎_elim (λ k. absurd (cc)) (λ k. absurd (cc)) h
-field_grows number presences.Implicit e oneof qs q h = ⊎_elim (λ k. absurd (cc)) (λ k. absurd (cc)) h
-field_grows number (presences.Map key) e oneof qs q h = ⊎_elim (λ k. absurd (cc)) (λ k. absurd (cc)) h
+field_grows number p e oneof qs q h = grind (arith, map-append)
 
 -- fields above all parts have no records
 none_reach : (fs : List FieldShape) (n : ℕ) (qs : List (Part Leaf)) → AllByRecursion (λ (g : FieldShape). n < g.number) fs → AllByRecursion (λ (q : Part Leaf). q.number ≤ n) qs
@@ -48,15 +43,10 @@ none_reach (g ∷ fs) n qs above below =
 module _ (f : FieldShape) (qs : List (Part Leaf)) (q : Part Leaf) (at : q.number ≡ f.number) (below : AllByRecursion (λ (x : Part Leaf). x.number ≤ f.number) qs)
     (single : (f.presence ≡ presences.Explicit) ⊎ (f.presence ≡ presences.Repeated false)) where
   others_stay : (n : ℕ) → n ≢ f.number → filter (is_of n) (qs ++ q ∷ []) ≡ filter (is_of n) qs
-  others_stay n apart =
-      let none : filter (is_of n) (q ∷ []) ≡ [] = filter_none (is_of n) (q ∷ []) (ne_eqb q.number n (λ same. apart (sym same ∙ at)), tt) in
-      filter-append' (is_of n) qs (q ∷ []) ∙ ap (λ xs. filter (is_of n) qs ++ xs) none ∙ append-nil (filter (is_of n) qs)
+  others_stay n apart = search (rules, filter_none, ne_eqb, filter-append', append-nil)
 
   own_grow : field_records f (filter (is_of f.number) (qs ++ q ∷ [])) ≡ field_records f (filter (is_of f.number) qs) ++ item_record f.number f.element q.item ∷ []
-  own_grow =
-      let last : filter (is_of f.number) (q ∷ []) ≡ q ∷ [] = filter_all (is_of f.number) (q ∷ []) (eq-eqb q.number f.number at, tt) in
-      ap (field_records f) (filter-append' (is_of f.number) qs (q ∷ []) ∙ ap (λ xs. filter (is_of f.number) qs ++ xs) last)
-      ∙ field_grows f.number f.presence f.element f.oneof (filter (is_of f.number) qs) q single
+  own_grow = search (rules, eq-eqb, filter-append', field_grows)
 
   records_grow : (fs : List FieldShape) → Rising fs → field_at fs f.number ≡ Some f → records_in fs (qs ++ q ∷ []) ≡ records_in fs qs ++ item_record f.number f.element q.item ∷ []
   records_grow [] rising found = absurd (cc)
@@ -109,11 +99,7 @@ module _ (shape : Shape) (type : TypeId) where
       ∙ append-nil (bytes_of (records_in (fields shape type) (map shown ps)))
 
   leaf_is : (f : FieldShape) (item : Item) → field_at (fields shape type) f.number ≡ Some f → IsOfField shape f item → leaf_there f.number item ≡ leaf_for shape f.element item
-  leaf_is f (Plain leaf) found h = refl
-  leaf_is f (Msg m) found h =
-      let at_place : child_type (fields shape type) f.number ≡ h.0 = child_type_is (fields shape type) f.number f h.0 found h.1 in
-      let of_field : element_type f.element ≡ h.0 = ap element_type h.1 in
-      ap (λ t. Bytes (enc shape t m)) (at_place ∙ sym of_field)
+  leaf_is f item found h = grind (arith, child_type_is)
 
   bytes_grow : (f : FieldShape) (ps : List (Part Item)) (item : Item) → Rising (fields shape type) → field_at (fields shape type) f.number ≡ Some f
       → (f.presence ≡ presences.Explicit) ⊎ (f.presence ≡ presences.Repeated false) → ComesLast f ps → IsOfField shape f item
@@ -138,16 +124,10 @@ places_are : (ps : List (Part Item)) (us : List WireRecord) → places (message_
 places_are ps us = sym (places-parts (message_from ps us)) ∙ ap (map place_of) (parts-message_from ps us).0
 
 no_key : (p : Presence) → (p ≡ presences.Explicit) ⊎ (p ≡ presences.Repeated false) → KeyFits p None
-no_key presences.Explicit h = refl
-no_key (presences.Repeated packed) h = refl
-no_key presences.Implicit h = refl
-no_key (presences.Map key) h = ⊎_elim (λ k. absurd (cc)) (λ k. absurd (cc)) h
+no_key p h = grind arith
 
 may_follow : (p : Presence) (k l : Option Leaf) → p ≡ presences.Repeated false → MayFollow p k l
-may_follow (presences.Repeated packed) k l h = tt
-may_follow presences.Implicit k l h = absurd (cc)
-may_follow presences.Explicit k l h = absurd (cc)
-may_follow (presences.Map key) k l h = absurd (cc)
+may_follow p k l h = grind arith
 
 module _ (shape : Shape) (type : TypeId) (f : FieldShape) (found : field_at (fields shape type) f.number ≡ Some f)
     (single : (f.presence ≡ presences.Explicit) ⊎ (f.presence ≡ presences.Repeated false)) (outside : f.oneof ≡ None) where
@@ -164,18 +144,10 @@ module _ (shape : Shape) (type : TypeId) (f : FieldShape) (found : field_at (fie
   before_grows : (g : FieldShape) (n : ℕ) (key : Option Leaf) (ls : List Place) → field_at (fields shape type) n ≡ Some g → (n < f.number) ⊎ ((n ≡ f.number) × (f.presence ≡ presences.Repeated false))
       → ComesBefore g key ls → ComesBefore g key (ls ++ last_place ∷ [])
   before_grows g n key ls there low h =
-      let at : g.number ≡ n = found_number (fields shape type) n g there in
-      let last : (g.number < f.number) ⊎ ((g.number ≡ f.number) × MayFollow g.presence key None) =
-      ⊎_elim (λ below. inl (omega arith))
-      (λ same.
-      let is = is_field g (ap (field_at (fields shape type)) (sym same.0) ∙ there) in
-      inr (ap (λ (x : FieldShape). x.number) is, may_follow g.presence key None (ap (λ (x : FieldShape). x.presence) is ∙ same.1))) low in
-      each-append (λ (p : Place). (g.number < p.number) ⊎ ((g.number ≡ p.number) × MayFollow g.presence key p.key)) ls (last_place ∷ []) h (last, tt)
+      search (rules, arith, found_number, is_field, may_follow, each-append)
 
   alone_grows : (g : FieldShape) (ls : List Place) → IsAlone (fields shape type) g ls → IsAlone (fields shape type) g (ls ++ last_place ∷ [])
-  alone_grows g ls h =
-      each-append (λ (p : Place). (x : FieldShape) → field_at (fields shape type) p.number ≡ Some x → is_sibling g x ≡ false) ls (last_place ∷ []) h
-      (λ x there. subst (λ (y : FieldShape). is_sibling g y ≡ false) (sym (is_field x there)) (no_sibling_behind g f outside), tt)
+  alone_grows g ls h = search (rules, each-append, is_field, no_sibling_behind)
 
   abbrev part_grows : (n : ℕ) (key : Option Leaf) (ls grown : List Place) → grown ≡ ls ++ last_place ∷ [] → (n < f.number) ⊎ ((n ≡ f.number) × (f.presence ≡ presences.Repeated false))
       → IsPart (fields shape type) n key ls → IsPart (fields shape type) n key grown
@@ -202,7 +174,4 @@ module _ (shape : Shape) (type : TypeId) (f : FieldShape) (found : field_at (fie
       front_grows p.number p.key p.item (message_from ps []) (message_from (ps ++ keyless f.number item ∷ []) []) there last.0 h (λ rest. message_grows ps item last.1 rest fits)
 
 pub encoding_grows : EncodingGrows
-encoding_grows = λ shape type f ps item is_shape found outside single last is_message fits. (
-  message_grows shape type f found single outside ps item last is_message fits,
-  bytes_grow shape type f ps item (fields-IsType shape type is_shape).rising found single last fits,
-)
+encoding_grows = search (rules, message_grows, bytes_grow, fields-IsType)

@@ -1,14 +1,12 @@
 -- The parts that messages lend, of those that own them and of those that borrow.
-use Rattle.std.proofs.Common.{◌≡◌, ◌≢◌, ℕ, List, [], ◌∷◌, map, Bool, true, false, Option, Some, None, refl, ap, ap₂, sym, ◌∙◌}
+use Rattle.std.proofs.Common.{◌≡◌, ◌≢◌, ℕ, List, [], ◌∷◌, map, Bool, true, false, Option, Some, None, refl, ap, ap₂, sym, ◌∙◌, arith}
 use Rattle.pg_dyn.specs.declared.message.Content.{Content}
 use Rattle.pg_dyn.specs.declared.message.Content.TheVariants as owned
 use Rattle.pg_dyn.specs.declared.message.Value.{Value}
-use Rattle.pg_dyn.specs.declared.message.Value.TheVariants as values
 use Rattle.pg_dyn.specs.declared.message_ref.ContentRef.{ContentRef}
 use Rattle.pg_dyn.specs.declared.message_ref.ContentRef.TheVariants as lent
 use Rattle.pg_dyn.specs.declared.message_ref.EntryRef.{EntryRef}
 use Rattle.pg_dyn.specs.declared.message_ref.ValueRef.{ValueRef}
-use Rattle.pg_dyn.specs.declared.message_ref.ValueRef.TheVariants as borrows
 use Rattle.pg_dyn.specs.declared.number_list.NumberList.{NumberList}
 use Rattle.pg_dyn.specs.message_ref.Borrowed as borrowed
 use Rattle.pg_dyn.specs.message.KeptParts.{KeptItem}
@@ -39,20 +37,10 @@ map_as g h is (x ∷ xs) = ap₂ (λ y ys. y ∷ ys) (is x) (map_as g h is xs)
 -- Messages that own their parts.
 
 pub owned_seen : (l : Bool) (v : Value) → item_seen l v ≡ in_list l (owned_item v)
-owned_seen l (values.Int n) = refl
-owned_seen l (values.F32 n) = refl
-owned_seen l (values.F64 n) = refl
-owned_seen l (values.Text n) = refl
-owned_seen l (values.Bytes n) = refl
-owned_seen l (values.Msg child) = refl
+owned_seen l v = grind arith
 
 pub owned_leaf : (v : Value) → leaf_of v ≡ bare_leaf (owned_item v)
-owned_leaf (values.Int n) = refl
-owned_leaf (values.F32 n) = refl
-owned_leaf (values.F64 n) = refl
-owned_leaf (values.Text n) = refl
-owned_leaf (values.Bytes n) = refl
-owned_leaf (values.Msg child) = refl
+owned_leaf v = grind arith
 
 owned_item_part : (n : ℕ) (l : Bool) (v : Value) → seen.item_part n l v ≡ item_part owned_item n l v
 owned_item_part n l v = ap (λ (x : KeptItem). record { number = n; key = None; item = x }) (owned_seen l v)
@@ -61,9 +49,7 @@ owned_entry_is : (n : ℕ) (e : Value × Value) → seen.entry_part n e ≡ entr
 owned_entry_is n e = ap₂ (λ k (x : KeptItem). record { number = n; key = Some k; item = x }) (owned_leaf e.0) (owned_seen false e.1)
 
 pub owned_filled : (n : ℕ) (c : Content) → IsFilled c → content_seen n c ≢ []
-owned_filled n (owned.One v) filled e = absurd (cc)
-owned_filled n (owned.Many vs) filled e = some_of (seen.item_part n true) vs.items filled e
-owned_filled n (owned.Map es) filled e = some_of (seen.entry_part n) es.items filled e
+owned_filled n c filled e = grind (arith, some_of)
 
 abbrev pub owned_items : Content → List Value
 owned_items (owned.One v) = v ∷ []
@@ -81,27 +67,15 @@ owned_items_are n (owned.Many vs) keyless = (true, map_as (seen.item_part n true
 owned_items_are n (owned.Map es) keyless = (false, no_keys (seen.entry_part n) (λ (e : Value × Value). leaf_of e.0) (λ e. refl) es.items keyless)
 
 pub owned_entries_are : (n : ℕ) (c : Content) → AreKeyed (content_seen n c) → content_seen n c ≡ map (entry_part owned_item (λ (x : Value × Value). x.0) (λ (x : Value × Value). x.1) n) (owned_entries c)
-owned_entries_are n (owned.One v) keyed = absurd (keyed.0 refl)
-owned_entries_are n (owned.Many vs) keyed = all_keys (seen.item_part n true) (λ v. refl) vs.items keyed
-owned_entries_are n (owned.Map es) keyed = map_as (seen.entry_part n) (entry_part owned_item (λ (x : Value × Value). x.0) (λ (x : Value × Value). x.1) n) (owned_entry_is n) es.items
+owned_entries_are n c keyed = grind (arith, all_keys, map_as, owned_entry_is)
 
 -- Messages that borrow.
 
 pub lent_seen : (l : Bool) (v : ValueRef) → borrowed.item_seen l v ≡ in_list l (lent_item v)
-lent_seen l (borrows.Int n) = refl
-lent_seen l (borrows.F32 n) = refl
-lent_seen l (borrows.F64 n) = refl
-lent_seen l (borrows.Text n) = refl
-lent_seen l (borrows.Bytes n) = refl
-lent_seen l (borrows.Msg child) = refl
+lent_seen l v = grind arith
 
 pub lent_leaf : (v : ValueRef) → borrowed.leaf_of v ≡ bare_leaf (lent_item v)
-lent_leaf (borrows.Int n) = refl
-lent_leaf (borrows.F32 n) = refl
-lent_leaf (borrows.F64 n) = refl
-lent_leaf (borrows.Text n) = refl
-lent_leaf (borrows.Bytes n) = refl
-lent_leaf (borrows.Msg child) = refl
+lent_leaf v = grind arith
 
 lent_item_part : (n : ℕ) (l : Bool) (v : ValueRef) → borrowed.item_part n l v ≡ item_part lent_item n l v
 lent_item_part n l v = ap (λ (x : KeptItem). record { number = n; key = None; item = x }) (lent_seen l v)
@@ -110,10 +84,7 @@ lent_entry_is : (n : ℕ) (e : EntryRef) → borrowed.entry_part n e ≡ entry_p
 lent_entry_is n e = ap₂ (λ k (x : KeptItem). record { number = n; key = Some k; item = x }) (lent_leaf e.key) (lent_seen false e.value)
 
 pub lent_filled : (n : ℕ) (c : ContentRef) → borrowed.IsFilled c → borrowed.content_seen n c ≢ []
-lent_filled n (lent.One v) filled e = absurd (cc)
-lent_filled n (lent.Many vs) filled e = some_of (borrowed.item_part n true) vs.items filled e
-lent_filled n (lent.Map es) filled e = some_of (borrowed.entry_part n) es.items filled e
-lent_filled n (lent.Numbers ns) filled e = some_of (borrowed.item_part n true) (numbers_in ns) filled e
+lent_filled n c filled e = grind (arith, some_of)
 
 pub lent_numbers : (n : ℕ) (ns : NumberList) → map (borrowed.item_part n true) (numbers_in ns) ≡ map (item_part lent_item n true) (numbers_in ns)
 lent_numbers n ns = map_as (borrowed.item_part n true) (item_part lent_item n true) (lent_item_part n true) (numbers_in ns)
@@ -137,7 +108,4 @@ lent_items_are n (lent.Numbers ns) keyless = (true, lent_numbers n ns)
 lent_items_are n (lent.Map es) keyless = (false, no_keys (borrowed.entry_part n) (λ (e : EntryRef). borrowed.leaf_of e.key) (λ e. refl) es.items keyless)
 
 pub lent_entries_are : (n : ℕ) (c : ContentRef) → AreKeyed (borrowed.content_seen n c) → borrowed.content_seen n c ≡ map (entry_part lent_item (λ (x : EntryRef). x.key) (λ (x : EntryRef). x.value) n) (lent_entries c)
-lent_entries_are n (lent.One v) keyed = absurd (keyed.0 refl)
-lent_entries_are n (lent.Many vs) keyed = all_keys (borrowed.item_part n true) (λ v. refl) vs.items keyed
-lent_entries_are n (lent.Numbers ns) keyed = all_keys (borrowed.item_part n true) (λ v. refl) (numbers_in ns) keyed
-lent_entries_are n (lent.Map es) keyed = map_as (borrowed.entry_part n) (entry_part lent_item (λ (x : EntryRef). x.key) (λ (x : EntryRef). x.value) n) (lent_entry_is n) es.items
+lent_entries_are n c keyed = grind (arith, all_keys, map_as, lent_entry_is)

@@ -1,5 +1,5 @@
 -- What is in a message weighs less than it, whoever owns its parts.
-use Rattle.std.proofs.Common.{◌≡◌, ℕ, zero, suc, ◌+◌, ◌<◌, ◌≤◌, List, [], ◌∷◌, ◌++◌, length, map, get_or, Bool, false, Option, refl, ap, ap₂, arith}
+use Rattle.std.proofs.Common.{◌≡◌, ℕ, zero, suc, ◌+◌, ◌<◌, ◌≤◌, List, [], ◌∷◌, ◌++◌, length, map, get_or, Bool, false, Option, refl, ap, ap₂, arith, rules}
 use Rattle.pg_dyn.specs.message.Kept.{Kept, ends, type_of}
 use Rattle.pg_dyn.specs.message.KeptParts.{KeptItem, Plain, Msg, unknown_of}
 use Rattle.pg_dyn.specs.message.Weights.{weight}
@@ -49,18 +49,8 @@ whole_weighs (p ∷ ps) later = let first = part_weighs p.number p.key p.item (k
 module _ {C : Type 0} (parts : ℕ → C → List (Part KeptItem)) where
   row_lighter : (cs : List (ℕ × C)) (i : ℕ) (c : ℕ × C) → i < length cs → c ≡ get_or cs i c → parts_weight (parts c.0 c.1) ≤ parts_weight (all_parts parts cs)
   row_lighter [] i c inside is = absurd (omega arith)
-  row_lighter (d ∷ cs) zero c inside is =
-      let two = weigh_two (parts d.0 d.1) (all_parts parts cs) in
-      let same = ap (λ (x : ℕ × C). parts_weight (parts x.0 x.1)) is in
-      omega (arith, two, same)
-  row_lighter (d ∷ cs) (suc i) c inside is =
-      let two = weigh_two (parts d.0 d.1) (all_parts parts cs) in
-      let rest = row_lighter cs i c (omega arith) is in
-      omega (arith, two, rest)
+  row_lighter (d ∷ cs) zero c inside is = search (rules, arith, weigh_two)
+  row_lighter (d ∷ cs) (suc i) c inside is = search (rules, arith, weigh_two, row_lighter cs i c)
 
   pub content_lighter : (m : Kept) (cs : List (ℕ × C)) (i : ℕ) (c : ℕ × C) → m ≡ kept_onto (all_parts parts cs) (ends (type_of m) (unknown_of m)) → i < length cs → c ≡ get_or cs i c → parts_weight (parts c.0 c.1) < weight m
-  content_lighter m cs i c whole inside is =
-      let all = ap weight whole in
-      let sum = whole_weighs (all_parts parts cs) (ends (type_of m) (unknown_of m)) in
-      let one = row_lighter cs i c inside is in
-      omega (arith, all, sum, one)
+  content_lighter m cs i c whole inside is = search (rules, arith, whole_weighs, row_lighter)

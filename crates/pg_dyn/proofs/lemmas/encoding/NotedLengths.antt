@@ -1,5 +1,5 @@
 -- The lengths that are noted of a message are those of its contents, one after the other.
-use Rattle.std.proofs.Common.{◌≡◌, ℕ, ◌<◌, nat_eq, List, [], ◌∷◌, ◌++◌, length, flat_map, Bool, true, false, cond, Option, Some, refl, ap, ap₂, sym, ◌∙◌, arith, append_assoc, eq-eqb}
+use Rattle.std.proofs.Common.{◌≡◌, ℕ, ◌<◌, nat_eq, List, [], ◌∷◌, ◌++◌, length, flat_map, Bool, true, false, cond, Option, Some, refl, ap, ap₂, sym, ◌∙◌, arith, append_assoc, eq-eqb, rules}
 use Rattle.std.proofs.lemmas.Bool.{ne_eqb}
 use Rattle.std.specs.List.{AllByRecursion}
 use Rattle.pg_schema.specs.declared.parts.field.TypeId.{TypeId}
@@ -44,8 +44,7 @@ row_front : (e : Element) (n : ℕ) (ps : List (Part KeptItem)) (later : Kept) �
     → front_bodies e n (kept_onto ps later) ≡ packed_body (λ (p : Part KeptItem). bare p.item) e ps
 row_front e n [] later numbered lone none = none
 row_front e n (p ∷ ps) later numbered lone none =
-    ap (λ k. front_bodies e n (kept_part k p.key p.item (kept_onto ps later))) numbered.0
-    ∙ own_front e n p.key p.item (kept_onto ps later) lone.0 ∙ ap (λ xs. body (form e) (bare_leaf (bare p.item)) ++ xs) (row_front e n ps later numbered.1 lone.1 none)
+    search (rules, own_front, row_front e n ps later numbered.1 lone.1 none)
 
 -- The lengths of a row of parts.
 
@@ -58,8 +57,7 @@ module _ (shape : Shape) (fs : List FieldShape) where
   same_row n m = ap (λ b. cond b [] (row_by (field_at fs n) n m)) (eq-eqb n n refl)
 
   not_packed : (n : ℕ) (f : FieldShape) → field_at fs n ≡ Some f → is_packed f.presence ≡ false → (before : ℕ) → NoRow before n
-  not_packed n f found single before m =
-      ap (λ xs. cond (nat_eq n before) [] xs) (ap (λ o. row_by o n m) found ∙ ap (λ b. cond b (capped (length (front_bodies f.element n m)) ∷ []) []) single) ∙ if_same (nat_eq n before)
+  not_packed n f found single before m = search (rules, if_same)
 
   part_inner : (n : ℕ) (k : Option Leaf) (item : KeptItem) (later : Kept) (before : ℕ) → NoRow before n → lengths_behind shape fs before (kept_part n k item later) ≡ item_lengths shape (bare item) ++ lengths_behind shape fs n later
   part_inner n k (Plain l leaf) later before none = ap (λ xs. xs ++ lengths_behind shape fs n later) (none (holds n k l leaf later))
@@ -128,8 +126,7 @@ module _ {C : Type 0} (parts : ℕ → C → List (Part KeptItem)) (shape : Shap
   content_lengths c = parts_lengths shape (type_of m) c.0 (parts c.0 c.1)
 
   pub field_noted : (c : ℕ × C) (f : FieldShape) → field_at (fields shape (type_of m)) c.0 ≡ Some f → field_lengths shape f (parts f.number c.1) ≡ content_lengths c
-  field_noted c f found =
-      ap (λ k. field_lengths shape f (parts k c.1)) (found_number (fields shape (type_of m)) c.0 f found) ∙ ap (λ o. lengths_by shape o (parts c.0 c.1)) (sym found)
+  field_noted c f found = search (rules, found_number)
 
   held_inner : IsShape shape → (c : ℕ × C) → HoldsParts shape (type_of m) c.0 (parts c.0 c.1) → (later : Kept) (after : List ℕ) (before : ℕ) → before < c.0 → ((e : Element) → front_bodies e c.0 later ≡ [])
       → lengths_behind shape (fields shape (type_of m)) before later ≡ after → lengths_behind shape (fields shape (type_of m)) c.0 later ≡ after
@@ -156,5 +153,4 @@ module _ {C : Type 0} (parts : ℕ → C → List (Part KeptItem)) (shape : Shap
       above c h = let number = found_number (fields shape (type_of m)) c.0 h.field h.found in let is_field = field_is shape (type_of m) is_shape c.0 h.field h.found in omega (arith, number, is_field.number_above)
 
   pub inner_is : (ms : List (ℕ × C)) → IsShape shape → m ≡ kept_onto (all_parts parts ms) (ends (type_of m) (unknown_of m)) → Rises ms → HeldContents parts shape m ms → flat_map content_lengths ms ≡ inner_lengths shape m
-  inner_is ms is_shape whole rises held =
-      sym (ap (lengths_behind shape (fields shape (type_of m)) 0) whole ∙ fields_inner is_shape ms (unknown_of m) 0 (above_zero is_shape ms held) rises held)
+  inner_is ms is_shape whole rises held = search (rules, fields_inner, above_zero)

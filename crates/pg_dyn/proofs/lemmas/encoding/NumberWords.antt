@@ -1,5 +1,5 @@
 -- Lists of numbers are written by their words.
-use Rattle.std.proofs.Common.{◌≡◌, ℕ, List, [], ◌∷◌, map, flat_map, true, false, Bool, refl, ap, sym, ◌∙◌}
+use Rattle.std.proofs.Common.{◌≡◌, ℕ, List, [], ◌∷◌, map, flat_map, true, false, Bool, refl, ap, sym, ◌∙◌, arith}
 use Rattle.std.specs.List.{AllByRecursion}
 use Rattle.pg_schema.specs.declared.parts.field.Element.{Element}
 use Rattle.pg_schema.specs.declared.parts.field.Element.TheVariants as elements
@@ -29,12 +29,7 @@ module _ (ns : NumberList) (e : Element) where
   words_single n = sym (flat_map-map (λ v. (item_record n e (bare_leaf (lent_item v))).bytes) (number_item (scalar_form ns.scalar)) ns.words.items)
 
 number_lone : (v : ValueRef) → IsNumber v → IsLone (lent_item v)
-number_lone (values.Int n) h = tt
-number_lone (values.F32 n) h = tt
-number_lone (values.F64 n) h = tt
-number_lone (values.Text n) h = absurd h
-number_lone (values.Bytes n) h = absurd h
-number_lone (values.Msg n) h = absurd h
+number_lone v h = grind arith
 
 number_bytes_are : (shape : Shape) (n : ℕ) (e : Element) (vs : List ValueRef) → AllByRecursion IsNumber vs
     → flat_map (λ v. item_bytes shape n e (lent_item v)) vs ≡ single_bytes lent_item n e vs
@@ -49,10 +44,7 @@ number_bytes_are shape n e (values.Msg k ∷ vs) h = absurd h.0
 -- an element is written as the scalar as which it is read
 module _ (n : ℕ) (ns : NumberList) where
   packed_as : (e : Element) (vs : List ValueRef) → packed_bytes lent_item n e vs ≡ packed_bytes lent_item n (elements.Scalar (read_as e)) vs
-  packed_as e [] = refl
-  packed_as (elements.Scalar s) (v ∷ vs) = refl
-  packed_as (elements.Enum x) (v ∷ vs) = refl
-  packed_as (elements.Message t) (v ∷ vs) = refl
+  packed_as e vs = grind arith
 
   noted_as : (e : Element) (vs : List ValueRef) → packed_lengths lent_item e vs ≡ packed_lengths lent_item (elements.Scalar (read_as e)) vs
   noted_as e [] = refl
@@ -61,9 +53,7 @@ module _ (n : ℕ) (ns : NumberList) where
   noted_as (elements.Message t) (v ∷ vs) = refl
 
   single_as : (e : Element) → single_bytes lent_item n e (numbers_in ns) ≡ single_bytes lent_item n (elements.Scalar (read_as e)) (numbers_in ns)
-  single_as (elements.Scalar s) = refl
-  single_as (elements.Enum x) = refl
-  single_as (elements.Message t) = refl
+  single_as e = grind arith
 
   bytes_as : (packed : Bool) (e : Element) → number_bytes packed n e ns ≡ number_bytes packed n (elements.Scalar (read_as e)) ns
   bytes_as true e = packed_as e (numbers_in ns)
@@ -76,9 +66,7 @@ module _ (n : ℕ) (ns : NumberList) where
 -- What is written of a field's list of numbers, and the lengths that are noted of it.
 module _ (shape : Shape) (f : FieldShape) (ns : NumberList) where
   leaf_as : (e : Element) (v : ValueRef) → IsNumber v → BareFits shape e (lent_item v) → IsLeafOf (elements.Scalar (read_as e)) (bare_leaf (lent_item v))
-  leaf_as (elements.Scalar s) v h fits = lone_fits shape (elements.Scalar s) (lent_item v) (number_lone v h) fits
-  leaf_as (elements.Enum x) v h fits = lone_fits shape (elements.Enum x) (lent_item v) (number_lone v h) fits
-  leaf_as (elements.Message t) v h fits = absurd (lone_fits shape (elements.Message t) (lent_item v) (number_lone v h) fits)
+  leaf_as e v h fits = grind (arith, lone_fits, number_lone)
 
   leaves_as : (vs : List ValueRef) → AllByRecursion IsNumber vs → AllByRecursion (λ v. BareFits shape f.element (lent_item v)) vs → LeavesFit lent_item (elements.Scalar (read_as f.element)) vs
   leaves_as [] h fits = tt

@@ -1,8 +1,7 @@
 -- Packed lists whose bodies are all of one length.
-use Rattle.std.proofs.Common.{◌≡◌, ◌+◌, ◌*◌, ℕ, List, [], ◌∷◌, length, refl, ap, ap₂, ◌∙◌, arith, length-append}
+use Rattle.std.proofs.Common.{◌≡◌, ◌*◌, ℕ, List, [], ◌∷◌, length, refl, ap, arith, length-append, rules}
 use Rattle.std.specs.List.{AllByRecursion}
 use Rattle.pg_schema.specs.declared.parts.field.Element.{Element}
-use Rattle.pg_schema.specs.declared.parts.field.Element.TheVariants as elements
 use Rattle.pg_wire.specs.declared.record.WireType.TheVariants.{I64, I32}
 use Rattle.pg_dyn.specs.message.Message.{Leaf, Int, F32, F64, Bytes}
 use Rattle.pg_dyn.specs.word.Coding.{Form, Integer, Single, Double, Text, Raw, InRange, body, form, form_wire, word_bytes}
@@ -29,15 +28,12 @@ four_bytes Raw (Bytes bytes) is fits = absurd (cc)
 four_bytes f l is fits = absurd fits
 
 in_range : (e : Element) (leaf : Leaf) → IsLeafOf e leaf → InRange (form e) leaf
-in_range (elements.Scalar s) leaf fits = fits
-in_range (elements.Enum e) leaf fits = fits
-in_range (elements.Message t) leaf fits = absurd fits
+in_range e leaf fits = grind arith
 
 module _ {V : Type 0} (item : V → Bare) where
   all_of : (k : ℕ) (e : Element) (vs : List V) → AllByRecursion (λ v. length (body (form e) (bare_leaf (item v))) ≡ k) vs → length (packed_body item e vs) ≡ length vs * k
   all_of k e [] h = omega arith
-  all_of k e (v ∷ vs) h =
-      length-append (body (form e) (bare_leaf (item v))) (packed_body item e vs) ∙ ap₂ (λ m n. m + n) h.0 (all_of k e vs h.1) ∙ omega arith
+  all_of k e (v ∷ vs) h = search (rules, arith, length-append, all_of k e vs h.1)
 
   pub packed_eights : (e : Element) (vs : List V) → form_wire (form e) ≡ I64 → LeavesFit item e vs → length (packed_body item e vs) ≡ length vs * 8
   packed_eights e vs is fits =

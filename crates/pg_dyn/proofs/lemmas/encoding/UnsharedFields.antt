@@ -1,5 +1,5 @@
 -- What is written of the fields outside another type is the records of their contents.
-use Rattle.std.proofs.Common.{◌≡◌, ◌≢◌, ℕ, ◌<◌, List, [], ◌∷◌, ◌++◌, filter, flat_map, Bool, true, false, cond, nat_eq, is_none, if◌then◌else◌, Some, refl, ap, ap₂, sym, ◌∙◌, append-nil}
+use Rattle.std.proofs.Common.{◌≡◌, ◌≢◌, ℕ, List, [], ◌∷◌, ◌++◌, filter, flat_map, Bool, true, false, cond, is_none, Some, refl, ap, ap₂, sym, ◌∙◌, append-nil, rules}
 use Rattle.std.specs.List.{AllByRecursion}
 use Rattle.pg_schema.specs.declared.parts.field.TypeId.{TypeId}
 use Rattle.pg_schema.specs.Shape.{Shape, FieldShape, fields, field_at}
@@ -14,7 +14,7 @@ use Rattle.pg_dyn.specs.message.Seen.{Rises}
 use Rattle.pg_dyn.specs.encoding.Writing.{field_records, records_in, bytes_of}
 use Rattle.pg_dyn.specs.encoding.Encoding.{encoded_parts}
 use Rattle.pg_dyn.specs.views.Comparison.{outside, unshared_bytes}
-use Rattle.pg_dyn.specs.encoding.Written.{parts_written, records_by}
+use Rattle.pg_dyn.specs.encoding.Written.{records_by}
 use Rattle.pg_dyn.specs.encoding.Unshared.{outside_written}
 use Rattle.pg_dyn.proofs.Lists.{each_weaker, each_of_all, each-filter, filter-append', each_filtered, flat_map-append'}
 use Rattle.pg_dyn.proofs.lemmas.reading.records.Splitting.{found_number}
@@ -24,23 +24,12 @@ use Rattle.pg_dyn.proofs.lemmas.message.FieldListLaws.{rises-filter}
 
 rising_kept : (test : FieldShape → Bool) (fs : List FieldShape) → Rising fs → Rising (filter test fs)
 rising_kept test [] h = tt
-rising_kept test (f ∷ fs) h =
-    elim (test f) as (λ b. test f ≡ b → Rising (cond b (f ∷ filter test fs) (filter test fs)))
-    [ true ↦ λ e. (each_filtered (λ g. f.number < g.number) test fs h.0, rising_kept test fs h.1) | false ↦ λ e. rising_kept test fs h.1 ] refl
+rising_kept test (f ∷ fs) h = search (rules, each_filtered, rising_kept test fs h.1)
 
 -- a field that passes is found among those that do
 found_kept : (test : FieldShape → Bool) (fs : List FieldShape) (n : ℕ) (g : FieldShape) → field_at fs n ≡ Some g → test g ≡ true → field_at (filter test fs) n ≡ Some g
 found_kept test [] n g h passes = absurd (cc)
-found_kept test (f ∷ fs) n g h passes =
-    elim (nat_eq f.number n) as (λ b. nat_eq f.number n ≡ b → cond b (Some f) (field_at fs n) ≡ Some g → field_at (filter test (f ∷ fs)) n ≡ Some g) [
-      | true ↦ λ e k.
-          let same : f ≡ g = cc in
-          let kept : test f ≡ true = ap test same ∙ passes in
-          rw (kept, e) k
-      | false ↦ λ e k.
-          elim (test f) as (λ b. test f ≡ b → field_at (cond b (f ∷ filter test fs) (filter test fs)) n ≡ Some g)
-          [ true ↦ λ t. rw (e) (found_kept test fs n g k passes) | false ↦ λ t. found_kept test fs n g k passes ] refl
-    ] refl h
+found_kept test (f ∷ fs) n g h passes = search (rules, found_kept test fs n g)
 
 module _ {C : Type 0} (parts : ℕ → C → List (Part KeptItem)) (shape : Shape) (type : TypeId) (gs : List FieldShape) where
   abbrev is_out : ℕ × C → Bool
@@ -85,19 +74,14 @@ module _ {C : Type 0} (parts : ℕ → C → List (Part KeptItem)) (shape : Shap
     out : is_out m ≡ true
 
   found_out : (m : ℕ × C) → (l : Lone m) → field_at lone m.0 ≡ Some l.held.field
-  found_out m l =
-      let number : l.held.field.number ≡ m.0 = found_number (fields shape type) m.0 l.held.field l.held.found in
-      found_kept (λ (f : FieldShape). is_none (field_at gs f.number)) (fields shape type) m.0 l.held.field l.held.found (ap (λ n. is_none (field_at gs n)) number ∙ l.out)
+  found_out m l = search (rules, found_number, found_kept)
 
   lone_contents : (ms : List (ℕ × C)) → AllByRecursion Held ms → AllByRecursion Lone (filter is_out ms)
-  lone_contents ms hold =
-      each_weaker (λ (m : ℕ × C). Held m × (is_out m ≡ true)) Lone (λ m k. record { held = k.0; out = k.1 }) (filter is_out ms) (each-filter Held is_out ms hold)
+  lone_contents ms hold = search (rules, each_weaker, each-filter)
 
   only_out : (ms : List (ℕ × C)) → flat_map (λ (m : ℕ × C). bytes_of (records_by (field_at (fields shape type) m.0) (row m))) (filter is_out ms) ≡ flat_map (outside_written parts shape type gs) ms
   only_out [] = refl
-  only_out (m ∷ ms) =
-      elim (is_out m) as (λ b. is_out m ≡ b → flat_map (λ (x : ℕ × C). bytes_of (records_by (field_at (fields shape type) x.0) (row x))) (cond b (m ∷ filter is_out ms) (filter is_out ms)) ≡ (if b then parts_written shape type m.0 (parts m.0 m.1) else []) ++ flat_map (outside_written parts shape type gs) ms)
-      [ true ↦ λ e. ap (λ xs. parts_written shape type m.0 (parts m.0 m.1) ++ xs) (only_out ms) | false ↦ λ e. only_out ms ] refl
+  only_out (m ∷ ms) = search (rules, only_out ms)
 
   lone_bytes : (xs : List (ℕ × C)) → AllByRecursion Lone xs → bytes_of (by_fields row lone xs) ≡ flat_map (λ (m : ℕ × C). bytes_of (records_by (field_at (fields shape type) m.0) (row m))) xs
   lone_bytes [] h = refl

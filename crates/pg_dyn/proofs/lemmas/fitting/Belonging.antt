@@ -1,18 +1,17 @@
 -- What a message of a type says of its parts with the bytes of each child for it.
-use Rattle.std.proofs.Common.{◌≡◌, ℕ, zero, suc, ◌^◌, ◌<◌, List, [], ◌∷◌, map, get_or, length, Option, Some, refl, ap, sym, subst, arith, length-append}
+use Rattle.std.proofs.Common.{◌≡◌, ℕ, zero, suc, ◌^◌, ◌<◌, List, [], ◌∷◌, map, get_or, length, Option, Some, refl, ap, arith, length-append, rules}
 use Rattle.std.specs.List.{AllByRecursion}
 use Rattle.pg_schema.specs.declared.parts.field.TypeId.{TypeId}
 use Rattle.pg_schema.specs.declared.parts.field.Element.{Element}
 use Rattle.pg_schema.specs.declared.parts.field.Element.TheVariants as elements
 use Rattle.pg_schema.specs.declared.parts.field.Presence.{Presence}
-use Rattle.pg_schema.specs.declared.parts.field.Presence.TheVariants as presences
 use Rattle.pg_schema.specs.Shape.{Shape, FieldShape, fields, field_at}
 use Rattle.pg_schema.specs.ShapeRules.{PresenceFits, IsField, IsType, IsShape}
 use Rattle.pg_dyn.specs.message.Message.{Leaf, Bytes, Message, ends, holds, nests, place_of, places, unknown_of}
 use Rattle.pg_dyn.specs.word.Coding.{form}
 use Rattle.pg_dyn.specs.encoding.Writing.{records_in, bytes_of}
 use Rattle.pg_dyn.specs.encoding.Encoding.{child_type, encoded_parts, enc}
-use Rattle.pg_dyn.specs.fitting.Belonging.{MayBeZero, LeafFits, ComesBefore, IsAlone, IsPart, IsUnknown, IsMessage}
+use Rattle.pg_dyn.specs.fitting.Belonging.{MayBeZero, LeafFits, IsPart, IsUnknown, IsMessage}
 use Rattle.pg_dyn.proofs.lemmas.word.Codings.{Reads, Reads-from_range}
 use Rattle.pg_dyn.specs.laws.Bodies.{IsNestedLeaf}
 use Rattle.pg_dyn.proofs.lemmas.reading.Fields.{field_of}
@@ -52,22 +51,11 @@ leaf_fits number p (elements.Enum e) oneof leaf h = (Reads-from_range (elements.
 
 -- a child's bytes in its field, which isn't implicit
 child_fits : (p : Presence) (e : Element) (oneof : Option ℕ) (t : TypeId) (bytes : List ℕ) → e ≡ elements.Message t → PresenceFits p e oneof → Reads (form e) (Bytes bytes) × MayBeZero p (Bytes bytes) × IsNestedLeaf e (Bytes bytes)
-child_fits p (elements.Scalar s) oneof t bytes is fits = absurd (cc)
-child_fits p (elements.Enum e) oneof t bytes is fits = absurd (cc)
-child_fits presences.Implicit (elements.Message u) oneof t bytes is fits = absurd fits
-child_fits presences.Explicit (elements.Message u) oneof t bytes is fits = (record { read = refl; shape = tt }, tt, refl)
-child_fits (presences.Repeated packed) (elements.Message u) oneof t bytes is fits = (record { read = refl; shape = tt }, tt, refl)
-child_fits (presences.Map key) (elements.Message u) oneof t bytes is fits = (record { read = refl; shape = tt }, tt, refl)
+child_fits p e oneof t bytes is fits = grind arith
 
 module _ (shape : Shape) (type : TypeId) (is_type : IsType (length shape) (fields shape type)) where
   flat_part : (number : ℕ) (key : Option Leaf) (leaf : Leaf) (later : Message) (part : IsPart (fields shape type) number key (places later)) → Reads (form part.field.element) leaf × MayBeZero part.field.presence leaf × IsNestedLeaf part.field.element leaf → FlatPart (fields shape type) (record { number = number; key = key; item = leaf }) (map place_of (encoded_parts shape type later))
-  flat_part number key leaf later part item = record {
-    field = part.field;
-    found = part.found;
-    fits = record { number_is = sym (found_number (fields shape type) number part.field part.found); key_fits = part.key_fits; reads = item.0; may_be_zero = item.1; nested = item.2 };
-    before = subst (ComesBefore part.field key) (sym (places-encoded_parts shape type later)) part.before;
-    alone = subst (IsAlone (fields shape type) part.field) (sym (places-encoded_parts shape type later)) part.alone;
-  }
+  flat_part number key leaf later part item = search (rules, found_number, places-encoded_parts)
 
   pub flat_parts : (m : Message) → IsMessage shape type m → FlatParts (fields shape type) (encoded_parts shape type m)
   flat_parts (ends unknown) h = tt

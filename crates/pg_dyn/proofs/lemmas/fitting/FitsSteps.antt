@@ -1,5 +1,5 @@
 -- What the tests of a message's contents say of it.
-use Rattle.std.proofs.Common.{◌≡◌, ℕ, zero, suc, ◌<◌, ◌+◌, List, [], ◌∷◌, length, take, drop, get_or, false, Option, Some, None, refl, ap, sym, subst, ◌∙◌, arith, add-one}
+use Rattle.std.proofs.Common.{◌≡◌, ℕ, zero, suc, ◌<◌, ◌+◌, List, [], ◌∷◌, length, take, get_or, false, Option, Some, None, refl, ap, sym, subst, ◌∙◌, arith, add-one}
 use Rattle.std.specs.List.{AllByRecursion}
 use Rattle.std.specs.declared.cmp.Ordering.TheVariants.{Less, Equal}
 use Rattle.std.proofs.lemmas.Cmp.{int_cmp_total, nat_list_cmp_total}
@@ -8,37 +8,17 @@ use Rattle.pg_dyn.specs.declared.message.Content.{Content}
 use Rattle.pg_dyn.specs.declared.message.Value.{Value}
 use Rattle.pg_dyn.specs.declared.message.Value.TheVariants as values
 use Rattle.pg_dyn.specs.message.KeyOrder.{Rise}
-use Rattle.pg_dyn.specs.message.Message.{Leaf, Int, F32, F64, Bytes, key_cmp}
+use Rattle.pg_dyn.specs.message.Message.{Leaf, Int, Bytes, key_cmp}
 use Rattle.pg_dyn.specs.message.Seen.{IsKey, leaf_of}
-use Rattle.pg_dyn.specs.fitting.ContentFits.{are_siblings_by, AreApart, KeysRise, NoneSiblings}
+use Rattle.pg_dyn.specs.fitting.ContentFits.{are_siblings_by, AreApart, KeysRise}
 
 -- The order of keys.
 
 pub key_trans : (k l m : Leaf) → key_cmp k l ≡ Less → key_cmp l m ≡ Less → key_cmp k m ≡ Less
-key_trans (Int a) (Int b) (Int c) h k = int_cmp_total.trans a b c h k
-key_trans (Int a) (Int b) (F32 c) h k = absurd (cc)
-key_trans (Int a) (Int b) (F64 c) h k = absurd (cc)
-key_trans (Int a) (Int b) (Bytes c) h k = absurd (cc)
-key_trans (Int a) (F32 b) m h k = absurd (cc)
-key_trans (Int a) (F64 b) m h k = absurd (cc)
-key_trans (Int a) (Bytes b) m h k = absurd (cc)
-key_trans (F32 a) l m h k = absurd (cc)
-key_trans (F64 a) l m h k = absurd (cc)
-key_trans (Bytes a) (Int b) m h k = absurd (cc)
-key_trans (Bytes a) (F32 b) m h k = absurd (cc)
-key_trans (Bytes a) (F64 b) m h k = absurd (cc)
-key_trans (Bytes a) (Bytes b) (Int c) h k = absurd (cc)
-key_trans (Bytes a) (Bytes b) (F32 c) h k = absurd (cc)
-key_trans (Bytes a) (Bytes b) (F64 c) h k = absurd (cc)
-key_trans (Bytes a) (Bytes b) (Bytes c) h k = nat_list_cmp_total.trans a b c h k
+key_trans e l m h k = grind (arith, int_cmp_total, nat_list_cmp_total)
 
 pub other_default : (v w : Value) → IsKey v → ((x : _) → v ≡ values.Int x → ⊥) → ((x : _) → v ≡ values.Text x → ⊥) → ((x : _) → v ≡ values.Bytes x → ⊥) → Equal ≡ key_cmp (leaf_of v) (leaf_of w)
-other_default (values.Int x) w key int text bytes = absurd (int x refl)
-other_default (values.F32 x) w key int text bytes = refl
-other_default (values.F64 x) w key int text bytes = refl
-other_default (values.Text x) w key int text bytes = absurd (text x refl)
-other_default (values.Bytes x) w key int text bytes = absurd (bytes x refl)
-other_default (values.Msg x) w key int text bytes = absurd key
+other_default v w key int text bytes = grind arith
 
 -- keys rise where each is below the next
 module _ {A : Type 0} (key : A → Leaf) where
@@ -80,15 +60,6 @@ apart_from fs a b h f g found there = sym (ap (λ o. are_siblings_by o (field_at
 module _ (fs : List FieldShape) where
   abbrev pub ApartFrom : ℕ → List (ℕ × Content) → Type 0
   ApartFrom n ms = AllByRecursion (λ (l : ℕ × Content). AreApart fs n l.0) ms
-
-  pub none_from : (ms : List (ℕ × Content)) → ((k : ℕ) (d : ℕ × Content) → k < length ms → ApartFrom (get_or ms k d).0 (drop (suc k) ms)) → NoneSiblings fs ms
-  none_from [] h = tt
-  none_from (m ∷ ms) h = (h 0 m (omega arith), none_from ms (λ k d inside. h (suc k) d (omega arith)))
-
-  pub none_at : (ms : List (ℕ × Content)) (k : ℕ) (d : ℕ × Content) → k < length ms → NoneSiblings fs ms → ApartFrom (get_or ms k d).0 (drop (suc k) ms)
-  none_at [] k d inside h = absurd (omega arith)
-  none_at (m ∷ ms) zero d inside h = h.0
-  none_at (m ∷ ms) (suc k) d inside h = none_at ms k d (omega arith) h.1
 
 -- a fact of a list, from its front and the next, and back at an index
 pub each_more : {A : Type 0} (P : A → Type 0) (xs : List A) (i : ℕ) (x : A) → i < length xs → x ≡ get_or xs i x → AllByRecursion P (take i xs) → P x → AllByRecursion P (take (i + 1) xs)

@@ -1,8 +1,8 @@
 -- Members of oneofs among contents by rising numbers.
-use Rattle.std.proofs.Common.{◌≡◌, ℕ, option_and_then, ◌<◌, ◌≤◌, List, [], ◌∷◌, length, Bool, true, false, cond, not, ◌&&◌, Option, Some, None, refl, ap, ap₂, sym, ◌∙◌, arith, true≢false, eq-eqb, ne_eqb}
+use Rattle.std.proofs.Common.{◌≡◌, ℕ, ◌<◌, ◌≤◌, List, [], ◌∷◌, length, Bool, true, false, cond, Some, refl, ap, arith, true≢false, eq-eqb, ne_eqb, rules}
 use Rattle.pg_schema.specs.Shape.{FieldShape, field_at}
 use Rattle.pg_dyn.specs.declared.message.Content.{Content}
-use Rattle.pg_dyn.specs.reading.Content.{same_oneof, is_sibling}
+use Rattle.pg_dyn.specs.reading.Content.{is_sibling}
 use Rattle.pg_dyn.specs.setting.ContentFaults.{is_in_oneof, members}
 use Rattle.pg_dyn.specs.fitting.ContentFits.{AreApart, NoneSiblings}
 use Rattle.pg_dyn.specs.message.Seen.{Rises}
@@ -12,27 +12,15 @@ use Rattle.pg_dyn.proofs.lemmas.setting.WholeFaults.{same_some}
 
 module _ (fs : List FieldShape) where
   in_oneof : (n o : ℕ) → is_in_oneof fs o n ≡ true → (f : FieldShape) × (field_at fs n ≡ Some f) × (f.oneof ≡ Some o)
-  in_oneof n o h = of (field_at fs n) refl h
-    where
-      of : (x : Option FieldShape) → field_at fs n ≡ x → same_oneof (option_and_then (λ (f : FieldShape). f.oneof) x) (Some o) ≡ true → (f : FieldShape) × (field_at fs n ≡ Some f) × (f.oneof ≡ Some o)
-      of (Some f) found k = let (p, is_f, is_o) = same_some f.oneof (Some o) k in (f, found, is_f ∙ sym is_o)
-      of None found k = absurd (cc)
+  in_oneof n o h = search (rules, same_some)
 
   siblings_in : (f g : FieldShape) (o : ℕ) → f.oneof ≡ Some o → g.oneof ≡ Some o → f.number < g.number → is_sibling f g ≡ true
-  siblings_in f g o is_f is_g below =
-      ap₂ (λ x y. x && not y) (ap₂ (λ x y. same_oneof x y) is_f is_g ∙ eq-eqb o o refl) (ne_eqb f.number g.number (λ k. absurd (omega arith)))
+  siblings_in f g o is_f is_g below = search (rules, arith, eq-eqb, ne_eqb)
 
   -- of two fields that are apart the second is in no oneof of the first
   apart_in : (a b o : ℕ) → a < b → AreApart fs a b → is_in_oneof fs o a ≡ true → is_in_oneof fs o b ≡ false
-  apart_in a b o below apart first = of (is_in_oneof fs o b) refl
-    where
-      of : (x : Bool) → is_in_oneof fs o b ≡ x → is_in_oneof fs o b ≡ false
-      of false e = e
-      of true e =
-          let (f, found, is_f) = in_oneof a o first in
-          let (g, there, is_g) = in_oneof b o e in
-          let low : f.number < g.number = omega (arith, below, found_number fs a f found, found_number fs b g there) in
-          absurd (true≢false (sym (siblings_in f g o is_f is_g low) ∙ apart f g found there))
+  apart_in a b o below apart first =
+      search (rules, arith, in_oneof, found_number, true≢false, siblings_in)
 
   -- of contents that are no siblings each oneof has one member at most
   pub each_once : (cs : List (ℕ × Content)) → Rises cs → NoneSiblings fs cs → (o : ℕ) → length (members fs o cs) ≤ 1

@@ -1,5 +1,5 @@
 -- Walks over contents that count the members of oneofs.
-use Rattle.std.proofs.Common.{◌≡◌, ℕ, zero, suc, ◌+◌, ◌-◌, ◌<◌, ◌≤◌, List, [], ◌∷◌, length, take, get_or, nat_eq, Bool, true, false, cond, Option, Some, None, option_and_then, IfSome, refl, ap, sym, subst, ◌∙◌, arith, add-one, ne_eqb}
+use Rattle.std.proofs.Common.{◌≡◌, ℕ, zero, suc, ◌+◌, ◌-◌, ◌<◌, ◌≤◌, List, [], ◌∷◌, length, take, get_or, nat_eq, Bool, true, false, cond, Option, Some, None, option_and_then, IfSome, ap, sym, subst, ◌∙◌, arith, add-one, ne_eqb, rules}
 use Rattle.std.proofs.lemmas.List.{take_all}
 use Rattle.pg_schema.specs.Shape.{FieldShape, field_at}
 use Rattle.pg_dyn.specs.declared.message.Content.{Content}
@@ -15,20 +15,8 @@ module _ (fs : List FieldShape) (o : ℕ) where
   step : (xs : List (ℕ × Content)) (i : ℕ) (x : ℕ × Content) → i < length xs → x ≡ get_or xs i x
       → length (members fs o (take (suc i) xs)) ≡ length (members fs o (take i xs)) + once_if (is_in_oneof fs o x.0)
   step [] i x inside is = absurd (omega arith)
-  step (y ∷ xs) zero x inside is = of (is_in_oneof fs o y.0) (is_in_oneof fs o x.0) (ap (λ (z : ℕ × Content). is_in_oneof fs o z.0) (sym is))
-    where
-      of : (a b : Bool) → a ≡ b → length (cond a (y ∷ []) []) ≡ 0 + once_if b
-      of true true e = refl
-      of false false e = refl
-      of true false e = absurd (cc)
-      of false true e = absurd (cc)
-  step (y ∷ xs) (suc i) x inside is = of (is_in_oneof fs o y.0) (step xs i x (omega arith) is)
-    where
-      of : (b : Bool) → length (members fs o (take (suc i) xs)) ≡ length (members fs o (take i xs)) + once_if (is_in_oneof fs o x.0)
-          → length (cond b (y ∷ members fs o (take (suc i) xs)) (members fs o (take (suc i) xs)))
-          ≡ length (cond b (y ∷ members fs o (take i xs)) (members fs o (take i xs))) + once_if (is_in_oneof fs o x.0)
-      of true e = omega (arith, e)
-      of false e = e
+  step (y ∷ xs) zero x inside is = search rules
+  step (y ∷ xs) (suc i) x inside is = search (rules, arith, step xs i x)
 
   pub one_more : (xs : List (ℕ × Content)) (i : ℕ) (x : ℕ × Content) → i < length xs → x ≡ get_or xs i x
       → length (members fs o (take (i + 1) xs)) ≡ length (members fs o (take i xs)) + once_if (is_in_oneof fs o x.0)
@@ -39,20 +27,12 @@ module _ (fs : List FieldShape) (o : ℕ) where
   no_more [] zero = omega arith
   no_more [] (suc i) = omega arith
   no_more (y ∷ xs) zero = omega arith
-  no_more (y ∷ xs) (suc i) = of (is_in_oneof fs o y.0) (no_more xs i)
-    where
-      of : (b : Bool) → length (members fs o (take i xs)) ≤ length (members fs o xs)
-          → length (cond b (y ∷ members fs o (take i xs)) (members fs o (take i xs))) ≤ length (cond b (y ∷ members fs o xs) (members fs o xs))
-      of true e = omega (arith, e)
-      of false e = e
+  no_more (y ∷ xs) (suc i) = search (rules, arith, no_more xs i)
 
   -- one more content of a oneof that has one
   pub twice_at : (xs : List (ℕ × Content)) (i : ℕ) (x : ℕ × Content) → i < length xs → x ≡ get_or xs i x → is_in_oneof fs o x.0 ≡ true
       → length (members fs o (take i xs)) ≡ 1 → 1 < length (members fs o xs)
-  twice_at xs i x inside is member one =
-      let more = one_more xs i x inside is in
-      let counted : once_if (is_in_oneof fs o x.0) ≡ 1 = ap once_if member in
-      omega (arith, more, counted, one, no_more xs (i + 1))
+  twice_at xs i x inside is member one = search (rules, arith, one_more, no_more)
 
 module _ (fs : List FieldShape) (n : ℕ) (r : Option ℕ) (is : r ≡ option_and_then (λ (f : FieldShape). f.oneof) (field_at fs n)) where
   pub is_in : (o p : ℕ) → r ≡ Some p → is_in_oneof fs o n ≡ nat_eq p o
@@ -63,19 +43,12 @@ module _ (fs : List FieldShape) (n : ℕ) (r : Option ℕ) (is : r ≡ option_an
 
   -- a number above the oneof
   pub above : (end o : ℕ) → IfSome r (λ p. p < end) → end ≤ o → is_in_oneof fs o n ≡ false
-  above end o below from = of r refl below
-    where
-      of : (x : Option ℕ) → r ≡ x → IfSome x (λ p. p < end) → is_in_oneof fs o n ≡ false
-      of None e k = in_none o e
-      of (Some p) e k = is_in o p e ∙ ne_eqb p o (λ same. absurd (omega (arith, same, k, from)))
+  above end o below from = search (rules, arith, in_none, is_in, ne_eqb)
 
 -- no content has a oneof from there on
 pub none_more : (fs : List FieldShape) (o : ℕ) (xs : List (ℕ × Content)) (i : ℕ) (x : ℕ × Content) → i < length xs → x ≡ get_or xs i x
     → is_in_oneof fs o x.0 ≡ false → length (members fs o (take i xs)) ≡ 0 → length (members fs o (take (i + 1) xs)) ≡ 0
-none_more fs o xs i x inside is apart none =
-    let more = one_more fs o xs i x inside is in
-    let counted : once_if (is_in_oneof fs o x.0) ≡ 0 = ap once_if apart in
-    omega (arith, more, counted, none)
+none_more fs o xs i x inside is apart none = search (rules, arith, one_more fs o xs i x inside is)
 
 -- the oneofs of a window, with a flag each: those of a flag that is set have one content, the others none
 abbrev pub HaveOnce : List FieldShape → ℕ → List Bool → List (ℕ × Content) → Type 0

@@ -1,5 +1,5 @@
 -- Each part of a message that fits fits its field.
-use Rattle.std.proofs.Common.{◌≡◌, List, [], ◌∷◌, refl, sym, subst, ◌∙◌}
+use Rattle.std.proofs.Common.{◌≡◌, List, [], ◌∷◌, refl, sym, subst, rules}
 use Rattle.std.specs.List.{AllByRecursion}
 use Rattle.pg_schema.specs.declared.parts.field.TypeId.{TypeId}
 use Rattle.pg_schema.specs.Shape.{Shape}
@@ -18,8 +18,7 @@ module _ (shape : Shape) (type : TypeId) (is_shape : IsShape shape) where
   all_held : (ps : List (Part KeptItem)) (later : Kept) → type_of later ≡ type → Whole shape type (kept_onto ps later) → AllByRecursion (HoldsPart shape type) ps
   all_held [] later same h = tt
   all_held (p ∷ ps) later same h =
-      let (part, item, rest) = part_back shape type is_shape p.number p.key p.item (kept_onto ps later) (type_of-kept_onto ps later ∙ same) h in
-      (record { field = part.field; found = part.found; key = part.key_fits; item = item }, all_held ps later same rest)
+      search (rules, part_back, type_of-kept_onto, all_held ps later same)
 
 pub parts_hold : (shape : Shape) (m : Kept) → IsShape shape → Fits shape m → AllByRecursion (HoldsPart shape (type_of m)) (parts_of m)
 parts_hold shape m is_shape fits =

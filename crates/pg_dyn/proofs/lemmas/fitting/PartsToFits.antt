@@ -1,5 +1,5 @@
 -- A message fits where its parts fit their fields, are in order, and no two are of members of one oneof.
-use Rattle.std.proofs.Common.{◌≡◌, ℕ, ◌<◌, ◌⊎◌, List, [], ◌∷◌, ◌++◌, length, map, Bool, true, false, Option, Some, None, not, ◌&&◌, refl, ap, sym, subst, ◌∙◌, arith, ⊎_elim, inl, inr, eq-eqb}
+use Rattle.std.proofs.Common.{◌≡◌, ℕ, ◌<◌, ◌⊎◌, List, [], ◌∷◌, ◌++◌, length, map, Bool, true, false, Option, Some, None, not, ◌&&◌, refl, ap, sym, subst, ◌∙◌, arith, inl, inr, eq-eqb, rules}
 use Rattle.std.specs.List.{AllByRecursion}
 use Rattle.std.specs.declared.cmp.Ordering.TheVariants.{Less}
 use Rattle.std.proofs.Math.Bool.{and-false}
@@ -20,7 +20,6 @@ use Rattle.pg_dyn.specs.message.Message.{Leaf, Part, Place, key_cmp, place_of, p
 use Rattle.pg_dyn.specs.fitting.PartsFit.{FieldHolds, HoldsItem, InOrder, IsPartOf}
 use Rattle.pg_dyn.specs.message.Replacing.{all_parts, kept_onto, kept_part}
 use Rattle.pg_dyn.specs.message.Seen.{Rises}
-use Rattle.pg_dyn.proofs.lemmas.fitting.Belonging.{child_type_is}
 use Rattle.pg_dyn.proofs.lemmas.reading.gathered.GoodRecords.{same_found}
 use Rattle.pg_dyn.proofs.Lists.{each-append, each-map, each_both, each_weaker}
 use Rattle.pg_dyn.proofs.lemmas.message.ReplacingLaws.{kept_onto-append, type_of-kept_onto}
@@ -37,21 +36,14 @@ first_place n k (Msg listed child) later = refl
 pub places_kept : (ps : List (Part KeptItem)) (later : Kept)
     → places (message_of (kept_onto ps later)) ≡ map place_of ps ++ places (message_of later)
 places_kept [] later = refl
-places_kept (p ∷ ps) later =
-    first_place p.number p.key p.item (kept_onto ps later) ∙ ap (λ qs. place_of p ∷ qs) (places_kept ps later)
+places_kept (p ∷ ps) later = search (rules, first_place, places_kept ps later)
 
 -- items of lists have no keys, and follow one another
 pub listed_keyless : (p : Presence) → is_repeated p ≡ true → KeyFits p None
-listed_keyless presences.Implicit h = refl
-listed_keyless presences.Explicit h = refl
-listed_keyless (presences.Repeated packed) h = refl
-listed_keyless (presences.Map key) h = absurd (cc)
+listed_keyless p h = grind arith
 
 pub listed_follows : (p : Presence) → is_repeated p ≡ true → MayFollow p None None
-listed_follows presences.Implicit h = absurd (cc)
-listed_follows presences.Explicit h = absurd (cc)
-listed_follows (presences.Repeated packed) h = tt
-listed_follows (presences.Map key) h = absurd (cc)
+listed_follows p h = grind arith
 
 -- The parts of a list hold where each does; those of a map, where the keys rise too.
 module _ {A : Type 0} (shape : Shape) (f : FieldShape) (part : A → Part KeptItem) where
@@ -117,12 +109,7 @@ module _ (shape : Shape) (type : TypeId) where
     (listed_is n manner.listed later part.field same part.found item.0, text_is n manner.text later part.field same part.found item.1, whole.1),
   )
   part_to n k (Msg listed child) later same part item whole =
-      let fits : Fits shape child = item.1 in
-      let agrees : child_type (fields shape (type_of later)) n ≡ type_of child =
-      ap (λ t. child_type (fields shape t) n) same ∙ child_type_is (fields shape type) n part.field (type_of child) part.found item.2 in (
-        (part, type_of child, item.2, fits.is_message, whole.0),
-        (listed_is n listed later part.field same part.found item.0, agrees, fits.parts_agree, whole.1),
-      )
+      search (rules, listed_is)
 
   -- The parts after a part: of its own field, or of a later one that is no sibling.
 
@@ -139,18 +126,14 @@ module _ (shape : Shape) (type : TypeId) where
   Behind f k p = Own f k p ⊎ Beyond f p.number
 
   own_alone : (f : FieldShape) (k : Option Leaf) (p : Place) → field_at (fields shape type) f.number ≡ Some f → Own f k p → NotSibling f p.number
-  own_alone f k p found own g there =
-      subst (λ x. is_sibling f x ≡ false) (same_found f g (sym found ∙ ap (field_at (fields shape type)) own.0 ∙ there)) (own_sibling f)
+  own_alone f k p found own g there = search (rules, same_found, own_sibling)
 
   before_these : (f : FieldShape) (k : Option Leaf) (later : List Place) → AllByRecursion (Behind f k) later → ComesBefore f k later
-  before_these f k later each =
-      each_weaker (Behind f k) (λ (p : Place). (f.number < p.number) ⊎ ((f.number ≡ p.number) × MayFollow f.presence k p.key))
-      (λ p. ⊎_elim (λ own. inr own) (λ far. inl far.0)) later each
+  before_these f k later each = search (rules, each_weaker)
 
   alone_of_these : (f : FieldShape) (k : Option Leaf) (later : List Place) → field_at (fields shape type) f.number ≡ Some f
       → AllByRecursion (Behind f k) later → IsAlone (fields shape type) f later
-  alone_of_these f k later found each =
-      each_weaker (Behind f k) (λ (p : Place). NotSibling f p.number) (λ p. ⊎_elim (own_alone f k p found) (λ far. far.1)) later each
+  alone_of_these f k later found each = search (rules, each_weaker, own_alone)
 
   -- The parts of one field in front.
 
@@ -235,19 +218,13 @@ module _ (shape : Shape) (type : TypeId) where
       → Whole (kept_onto ps (ends type us)) → Whole (kept_onto ps (ends type vs))
   other_end us vs unknown [] h = (unknown, tt)
   other_end us vs unknown (p ∷ ps) h =
-      swapped p.number p.key p.item (kept_onto ps (ends type us)) (kept_onto ps (ends type vs))
-      (type_of-kept_onto ps (ends type us) ∙ sym (type_of-kept_onto ps (ends type vs)))
-      (places_kept ps (ends type us) ∙ sym (places_kept ps (ends type vs))) (other_end us vs unknown ps) h
+      search (rules, swapped, type_of-kept_onto, places_kept, other_end us vs unknown ps)
 
   pub whole_of : (m : Kept) → type_of m ≡ type → Fits shape m → Whole m
   whole_of m is fits = (subst (λ t. IsMessage shape t (message_of m)) is fits.is_message, fits.parts_agree)
 
   of_whole : (m : Kept) → type_of m ≡ type → type.index < length shape → Whole m → Fits shape m
-  of_whole m is there whole = record {
-    type_is_there = subst (λ (t : TypeId). t.index < length shape) (sym is) there;
-    is_message = subst (λ t. IsMessage shape t (message_of m)) (sym is) whole.0;
-    parts_agree = whole.1;
-  }
+  of_whole m is there whole = search rules
 
   -- A message that fits does so with any records that no field of its type accepts.
   pub fits_with_unknown : (ps : List (Part KeptItem)) (us vs : List WireRecord) → type.index < length shape
@@ -296,5 +273,4 @@ module _ {C : Type 0} (seen : ℕ → C → List (Part KeptItem)) (shape : Shape
   pub fits_of_contents : (cs : List (ℕ × C)) (us : List WireRecord) → type.index < length shape → Rises cs → AllByRecursion HoldsParts cs
       → NoneSiblings (fields shape type) cs → AllByRecursion (IsUnknown (fields shape type)) us → Fits shape (kept_onto (all_parts seen cs) (ends type us))
   fits_of_contents cs us there rises each apart unknown =
-      of_whole shape type (kept_onto (all_parts seen cs) (ends type us)) (type_of-kept_onto (all_parts seen cs) (ends type us)) there
-      (contents_whole cs us rises each apart unknown)
+      search (rules, of_whole, type_of-kept_onto, contents_whole)

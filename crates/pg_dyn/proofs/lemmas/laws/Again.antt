@@ -1,5 +1,5 @@
 -- A message that a type writes it reads again.
-use Rattle.std.proofs.Common.{◌≡◌, ℕ, zero, suc, ◌^◌, ◌<◌, ◌≤◌, List, ◌∷◌, ◌++◌, map, filter, length, true, false, cond, nat_eq, Option, Some, is_some, Ok, refl, ap, sym, ◌∙◌, subst, arith}
+use Rattle.std.proofs.Common.{◌≡◌, ℕ, zero, suc, ◌^◌, ◌<◌, ◌≤◌, List, ◌∷◌, ◌++◌, map, filter, length, true, false, cond, nat_eq, Option, Some, is_some, Ok, refl, ap, sym, ◌∙◌, subst, arith, rules}
 use Rattle.std.specs.Bool.{⊤}
 use Rattle.std.specs.List.{AllByRecursion}
 use Rattle.std.proofs.lemmas.Bool.{eqb-true}
@@ -39,17 +39,13 @@ module _ (child : Reader) (shape : Shape) (type : TypeId) where
       (child (child_type (fields shape type) number) (enc shape (child_type (fields shape type) number) c) ≡ Some c) × ChildrenAgain later
 
   leaf_item : (number : ℕ) (p : _) (e : Element) (oneof : Option ℕ) (leaf : Leaf) → LeafFits (field_of number p e oneof) leaf → read_item child e leaf ≡ Some (Plain leaf)
-  leaf_item number p (elements.Message t) oneof leaf h = absurd h
-  leaf_item number p (elements.Scalar s) oneof leaf h = refl
-  leaf_item number p (elements.Enum e) oneof leaf h = refl
+  leaf_item number p e oneof leaf h = grind arith
 
   same_field : (f g : FieldShape) (n : ℕ) → field_at (fields shape type) n ≡ Some g → field_at (fields shape type) f.number ≡ Some f → n ≡ f.number → g ≡ f
-  same_field f g n found known at =
-      let same : ◌≡◌ {A = Option FieldShape} (Some g) (Some f) = sym found ∙ ap (field_at (fields shape type)) at ∙ known in cc
+  same_field f g n found known at = search rules
 
   child_element : (f : FieldShape) → field_at (fields shape type) f.number ≡ Some f → (number : ℕ) (g : FieldShape) (t : TypeId) → field_at (fields shape type) number ≡ Some g → g.element ≡ elements.Message t → number ≡ f.number → f.element ≡ elements.Message (child_type (fields shape type) number)
-  child_element f known number g t found is at =
-      ap (λ (x : FieldShape). x.element) (sym (same_field f g number found known at)) ∙ is ∙ ap elements.Message (sym (child_type_is (fields shape type) number g t found is))
+  child_element f known number g t found is at = search (rules, same_field, child_type_is)
 
   -- the parts of a field
   parts_again : (f : FieldShape) → field_at (fields shape type) f.number ≡ Some f → (m : Message) → IsMessage shape type m → ChildrenAgain m → all_some (map (read_part child f.element) (filter (is_of f.number) (encoded_parts shape type m))) ≡ Some (filter (is_of f.number) (parts m))
@@ -73,9 +69,7 @@ module _ (child : Reader) (shape : Shape) (type : TypeId) where
       ] refl
 
   leaf_child : (number : ℕ) (p : _) (e : Element) (oneof : Option ℕ) (leaf : Leaf) → LeafFits (field_of number p e oneof) leaf → ChildReads child e leaf
-  leaf_child number p (elements.Message t) oneof leaf h = absurd h
-  leaf_child number p (elements.Scalar s) oneof leaf h = tt
-  leaf_child number p (elements.Enum e) oneof leaf h = tt
+  leaf_child number p e oneof leaf h = grind arith
 
   -- each child in a field is read
   children_read : (f : FieldShape) → field_at (fields shape type) f.number ≡ Some f → (m : Message) → IsMessage shape type m → ChildrenAgain m → AllByRecursion (λ (q : Part Leaf). ChildReads child f.element q.item) (filter (is_of f.number) (encoded_parts shape type m))

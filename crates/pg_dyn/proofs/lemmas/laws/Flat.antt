@@ -1,5 +1,5 @@
 -- The parts of a message, with the bytes of each child for it, are read again from the records that are written of them.
-use Rattle.std.proofs.Common.{◌≡◌, ◌≢◌, ℕ, ◌+◌, ◌^◌, ◌<◌, ◌≤◌, ◌⊎◌, inl, inr, ⊎_elim, List, [], ◌∷◌, ◌++◌, map, filter, flat_map, length, Bool, true, false, not, ◌&&◌, cond, nat_eq, Option, Some, None, Ok, refl, ap, ap₂, sym, ◌∙◌, subst, arith, eq-eqb, ne_eqb, append-nil, length-append}
+use Rattle.std.proofs.Common.{◌≡◌, ◌≢◌, ℕ, ◌+◌, ◌^◌, ◌<◌, ◌≤◌, ◌⊎◌, inl, ⊎_elim, List, [], ◌∷◌, ◌++◌, map, filter, flat_map, length, Bool, true, false, ◌&&◌, nat_eq, Option, Some, Ok, refl, ap, ap₂, sym, ◌∙◌, arith, eq-eqb, ne_eqb, append-nil, length-append, rules, cond, subst}
 use Rattle.std.specs.Bool.{⊤}
 use Rattle.std.specs.List.{AllByRecursion, list_any}
 use Rattle.std.proofs.lemmas.Bool.{eqb-true, and_parts, and_from, not_from_true, not-true}
@@ -47,26 +47,15 @@ each_known types fs h = each_both (λ f. field_at fs f.number ≡ Some f) (IsFie
 
 module _ (fs : List FieldShape) (f : FieldShape) (found : field_at fs f.number ≡ Some f) where
   own_field : (p : Part Leaf) (later : List Place) → (part : FlatPart fs p later) → p.number ≡ f.number → part.field ≡ f
-  own_field p later part at =
-      let same : ◌≡◌ {A = Option FieldShape} (Some part.field) (Some f) = sym part.found ∙ ap (field_at fs) at ∙ found in cc
+  own_field p later part at = search rules
 
   pub each_fits : (ps : List (Part Leaf)) → FlatParts fs ps → AllByRecursion (FitsField f.number f.presence f.element) (filter (is_of f.number) ps)
   each_fits [] h = tt
-  each_fits (p ∷ ps) h =
-      elim (nat_eq p.number f.number) as (λ b. nat_eq p.number f.number ≡ b → AllByRecursion (FitsField f.number f.presence f.element) (cond b (p ∷ filter (is_of f.number) ps) (filter (is_of f.number) ps))) [
-        | true ↦ λ e.
-            (subst (λ (g : FieldShape). FitsField g.number g.presence g.element p) (own_field p (map place_of ps) h.0 (eqb-true p.number f.number e)) h.0.fits, each_fits ps h.1)
-        | false ↦ λ e. each_fits ps h.1
-      ] refl
+  each_fits (p ∷ ps) h = search (rules, own_field, eqb-true, each_fits ps h.1)
 
   follow : (k : Option Leaf) (ps : List (Part Leaf)) → ComesBefore f k (map place_of ps) → AllByRecursion (λ r. MayFollow f.presence k r.key) (filter (is_of f.number) ps)
   follow k [] h = tt
-  follow k (p ∷ ps) h =
-      elim (nat_eq p.number f.number) as (λ b. nat_eq p.number f.number ≡ b → AllByRecursion (λ (r : Part Leaf). MayFollow f.presence k r.key) (cond b (p ∷ filter (is_of f.number) ps) (filter (is_of f.number) ps))) [
-        | true ↦ λ e.
-            (⊎_elim (λ above. absurd (let at = eqb-true p.number f.number e in omega arith)) (λ same. same.1) h.0, follow k ps h.1)
-        | false ↦ λ e. follow k ps h.1
-      ] refl
+  follow k (p ∷ ps) h = search (rules, arith, eqb-true, follow k ps h.1)
 
   pub in_order : (ps : List (Part Leaf)) → FlatParts fs ps → Ordered f.presence (filter (is_of f.number) ps)
   in_order [] h = tt
@@ -80,53 +69,34 @@ module _ (fs : List FieldShape) (f : FieldShape) (found : field_at fs f.number �
 -- Two members of a oneof don't both have parts.
 
 pub same_oneof_sym : (a b : Option ℕ) → same_oneof a b ≡ true → same_oneof b a ≡ true
-same_oneof_sym None b h = absurd (cc)
-same_oneof_sym (Some a) None h = absurd (cc)
-same_oneof_sym (Some a) (Some b) h = eq-eqb b a (sym (eqb-true a b h))
+same_oneof_sym a b h = grind (arith, eq-eqb, eqb-true)
 
 pub sibling_apart : (f g : FieldShape) → is_sibling f g ≡ true → f.number ≢ g.number
-sibling_apart f g h e =
-    let apart = not-true (nat_eq f.number g.number) ((and_parts (same_oneof f.oneof g.oneof) (not (nat_eq f.number g.number)) h).1) in
-    let same = eq-eqb f.number g.number e in cc
+sibling_apart f g h e = search (rules, not-true, and_parts, eq-eqb)
 
 pub is_sibling_sym : (f g : FieldShape) → is_sibling f g ≡ true → is_sibling g f ≡ true
-is_sibling_sym f g h =
-    and_from (same_oneof g.oneof f.oneof) (not (nat_eq g.number f.number)) (same_oneof_sym f.oneof g.oneof ((and_parts (same_oneof f.oneof g.oneof) (not (nat_eq f.number g.number)) h).0))
-    (ap not (ne_eqb g.number f.number (λ e. sibling_apart f g h (sym e))))
+is_sibling_sym f g h = search (rules, and_from, same_oneof_sym, and_parts, ne_eqb, sibling_apart)
 
 module _ (fs : List FieldShape) where
   -- a field that stands alone before parts has no sibling among them
   no_sibling_later : (f g : FieldShape) → field_at fs g.number ≡ Some g → is_sibling f g ≡ true → (ps : List (Part Leaf)) → IsAlone fs f (map place_of ps) → filter (is_of g.number) ps ≡ []
   no_sibling_later f g found sibling [] alone = refl
   no_sibling_later f g found sibling (p ∷ ps) alone =
-      elim (nat_eq p.number g.number) as (λ b. nat_eq p.number g.number ≡ b → cond b (p ∷ filter (is_of g.number) ps) (filter (is_of g.number) ps) ≡ []) [
-        | true ↦ λ e. absurd (clash (alone.0 g (ap (field_at fs) (eqb-true p.number g.number e) ∙ found)))
-        | false ↦ λ e. no_sibling_later f g found sibling ps alone.1
-      ] refl
-    where
-      clash : is_sibling f g ≡ false → ⊥
-      clash h = cc
+      search (rules, eqb-true, no_sibling_later f g found sibling ps alone.1)
 
   pub one_is_empty : (f g : FieldShape) → field_at fs f.number ≡ Some f → field_at fs g.number ≡ Some g → is_sibling f g ≡ true → (ps : List (Part Leaf)) → FlatParts fs ps → (filter (is_of f.number) ps ≡ []) ⊎ (filter (is_of g.number) ps ≡ [])
   one_is_empty f g found_f found_g sibling [] h = inl refl
   one_is_empty f g found_f found_g sibling (p ∷ ps) h =
-      elim (nat_eq p.number f.number) as (λ b. nat_eq p.number f.number ≡ b → (cond b (p ∷ filter (is_of f.number) ps) (filter (is_of f.number) ps) ≡ []) ⊎ (filter (is_of g.number) (p ∷ ps) ≡ [])) [
-        | true ↦ λ e. let at = eqb-true p.number f.number e in inr (of_f at)
-        | false ↦ λ e.
-            elim (nat_eq p.number g.number) as (λ b. nat_eq p.number g.number ≡ b → (filter (is_of f.number) ps ≡ []) ⊎ (cond b (p ∷ filter (is_of g.number) ps) (filter (is_of g.number) ps) ≡ [])) [
-              | true ↦ λ k. inl (of_g (eqb-true p.number g.number k))
-              | false ↦ λ k. one_is_empty f g found_f found_g sibling ps h.1
-            ] refl
-      ] refl
-    where
-      of_f : p.number ≡ f.number → filter (is_of g.number) (p ∷ ps) ≡ []
-      of_f at =
-          rw (ne_eqb p.number g.number (λ k. sibling_apart f g sibling (sym at ∙ k)))
-          (no_sibling_later f g found_g sibling ps (subst (λ (x : FieldShape). IsAlone fs x (map place_of ps)) (own_field fs f found_f p (map place_of ps) h.0 at) h.0.alone))
-
-      of_g : p.number ≡ g.number → filter (is_of f.number) ps ≡ []
-      of_g at =
-          no_sibling_later g f found_f (is_sibling_sym f g sibling) ps (subst (λ (x : FieldShape). IsAlone fs x (map place_of ps)) (own_field fs g found_g p (map place_of ps) h.0 at) h.0.alone)
+      search (
+        rules,
+        eqb-true,
+        one_is_empty f g found_f found_g sibling ps h.1,
+        ne_eqb,
+        sibling_apart,
+        no_sibling_later,
+        own_field,
+        is_sibling_sym,
+      )
 
 takes_own : (f : FieldShape) (r : WireRecord) → IsOwn f r → takes f r ≡ true
 takes_own f r own = and_from (nat_eq r.number f.number) (is_accepted f r) (eq-eqb r.number f.number own.number_is) own.accepted
@@ -208,18 +178,11 @@ module _ (types : ℕ) (fs : List FieldShape) (ps : List (Part Leaf)) (us : List
   pub own_within : (gs : List FieldShape) → AllByRecursion (λ f. length (bytes_of (own_records f)) ≤ length (bytes_of (flat_map own_records gs))) gs
   own_within [] = tt
   own_within (g ∷ gs) =
-      let total : length (bytes_of (flat_map own_records (g ∷ gs))) ≡ length (bytes_of (own_records g)) + length (bytes_of (flat_map own_records gs)) =
-      ap length (flat_map-append' (λ (r : WireRecord). r.bytes) (own_records g) (flat_map own_records gs)) ∙ length-append (bytes_of (own_records g)) (bytes_of (flat_map own_records gs)) in (
-        omega arith,
-        each_weaker (λ f. length (bytes_of (own_records f)) ≤ length (bytes_of (flat_map own_records gs))) (λ f. length (bytes_of (own_records f)) ≤ length (bytes_of (flat_map own_records (g ∷ gs))))
-            (λ f within. omega arith) gs (own_within gs),
-      )
+      search (rules, arith, flat_map-append', length-append, each_weaker, own_within gs)
 
   short_bodies : (f : FieldShape) (rs : List WireRecord) → AllByRecursion (IsOwn f) rs → length (bytes_of rs) < 2 ^ 64 → ShortBodies rs
   short_bodies f [] own h = tt
-  short_bodies f (r ∷ rs) own h =
-      let total = length-append r.bytes (bytes_of rs) in
-      (omega (arith, own.0.body_within), short_bodies f rs own.1 (omega arith))
+  short_bodies f (r ∷ rs) own h = search (rules, arith, length-append, short_bodies f rs own.1)
 
   -- what is known of each field's records
   pub own_short : AllByRecursion (λ f. ShortBodies (own_records f)) fs

@@ -1,5 +1,5 @@
 -- Parts in order are the parts of each field, one field after the other.
-use Rattle.std.proofs.Common.{◌≡◌, ◌≢◌, ℕ, ◌<◌, ◌≤◌, ◌⊎◌, ⊎_elim, List, [], ◌∷◌, ◌++◌, map, filter, true, false, cond, nat_eq, Option, Some, refl, ap, sym, ◌∙◌, subst, arith, eq-eqb, ne_eqb}
+use Rattle.std.proofs.Common.{◌≡◌, ◌≢◌, ℕ, ◌<◌, ◌≤◌, ◌⊎◌, ⊎_elim, List, [], ◌∷◌, ◌++◌, map, filter, true, Option, Some, refl, ap, sym, subst, arith, eq-eqb, ne_eqb, rules}
 use Rattle.std.specs.Bool.{⊤}
 use Rattle.std.specs.List.{AllByRecursion}
 use Rattle.std.proofs.lemmas.Bool.{eqb-true, cases_eq}
@@ -8,7 +8,7 @@ use Rattle.pg_schema.specs.Shape.{Shape, FieldShape, fields, field_at}
 use Rattle.pg_schema.specs.ShapeRules.{Rising}
 use Rattle.pg_dyn.specs.reading.Optional.{joined}
 use Rattle.pg_dyn.specs.message.Message.{Leaf, Message, ends, holds, nests, Part, Place, place_of, places, parts, is_of}
-use Rattle.pg_dyn.specs.fitting.Belonging.{MayFollow, IsPart, IsMessage}
+use Rattle.pg_dyn.specs.fitting.Belonging.{IsPart, IsMessage}
 use Rattle.pg_dyn.proofs.Lists.{each_weaker}
 use Rattle.pg_dyn.proofs.lemmas.reading.records.Splitting.{found_number, found_later}
 
@@ -24,9 +24,7 @@ NeverFalls fs (p ∷ ps) = IsNext fs p.number ps × NeverFalls fs ps
 
 pub above_head : (f g : FieldShape) (fs : List FieldShape) (n : ℕ) → AllByRecursion (λ x. f.number < x.number) fs → field_at fs n ≡ Some g → f.number < n
 above_head f g [] n above h = absurd (cc)
-above_head f g (x ∷ fs) n above h =
-    elim (nat_eq x.number n) as (λ b. nat_eq x.number n ≡ b → cond b (Some x) (field_at fs n) ≡ Some g → f.number < n)
-    [ true ↦ λ e k. let at = eqb-true x.number n e in omega (arith, above.0) | false ↦ λ e k. above_head f g fs n above.1 k ] refl h
+above_head f g (x ∷ fs) n above h = search (rules, arith, eqb-true, above_head f g fs n above.1)
 
 module _ {A : Type 0} where
   -- the parts of each field
@@ -40,15 +38,11 @@ module _ {A : Type 0} where
   -- a part in front changes nothing for fields of other numbers
   of_each_apart : (fs : List FieldShape) (p : Part A) (ps : List (Part A)) → AllByRecursion (λ g. p.number < g.number) fs → of_each fs (p ∷ ps) ≡ of_each fs ps
   of_each_apart [] p ps h = refl
-  of_each_apart (g ∷ fs) p ps h =
-      let apart : p.number ≢ g.number = omega (arith, h.0) in
-      rw (ne_eqb p.number g.number apart) (ap (λ qs. filter (is_of g.number) ps ++ qs) (of_each_apart fs p ps h.1))
+  of_each_apart (g ∷ fs) p ps h = search (rules, arith, ne_eqb, of_each_apart fs p ps h.1)
 
   none_below : (n : ℕ) (p : Part A) (ps : List (Part A)) → n < p.number → AllByRecursion (λ (q : Place). p.number ≤ q.number) (map place_of ps) → filter (is_of n) ps ≡ []
   none_below n p [] below h = refl
-  none_below n p (q ∷ ps) below h =
-      let apart : q.number ≢ n = omega (arith, h.0) in
-      rw (ne_eqb q.number n apart) (none_below n p ps below h.1)
+  none_below n p (q ∷ ps) below h = search (rules, arith, ne_eqb, none_below n p ps below h.1)
 
   -- a part in front is first among the parts of its field
   of_each-cons : (fs : List FieldShape) (g : FieldShape) (p : Part A) (ps : List (Part A)) → Rising fs → field_at fs p.number ≡ Some g → AllByRecursion (λ (q : Place). p.number ≤ q.number) (map place_of ps) → of_each fs (p ∷ ps) ≡ p ∷ of_each fs ps
@@ -66,19 +60,11 @@ module _ {A : Type 0} where
 
   pub of_each_is : (fs : List FieldShape) (ps : List (Part A)) → Rising fs → NeverFalls fs (map place_of ps) → of_each fs ps ≡ ps
   of_each_is fs [] rising h = of_each-nil fs
-  of_each_is fs (p ∷ ps) rising h =
-      of_each-cons fs h.0.field p ps rising h.0.found h.0.not_above ∙ ap (λ qs. p ∷ qs) (of_each_is fs ps rising h.1)
+  of_each_is fs (p ∷ ps) rising h = search (rules, of_each-cons, of_each_is fs ps rising h.1)
 
 module _ (shape : Shape) (type : TypeId) where
   is_next : (number : ℕ) (key : Option Leaf) (later : List Place) → IsPart (fields shape type) number key later → IsNext (fields shape type) number later
-  is_next number key later part = record {
-    field = part.field;
-    found = part.found;
-    not_above =
-        let at : part.field.number ≡ number = found_number (fields shape type) number part.field part.found in
-        each_weaker (λ (q : Place). (part.field.number < q.number) ⊎ ((part.field.number ≡ q.number) × MayFollow part.field.presence key q.key)) (λ (q : Place). number ≤ q.number)
-        (λ q h. ⊎_elim (λ above. let k : number ≤ q.number = omega arith in k) (λ same. let e = same.0 in omega arith) h) later part.before;
-  }
+  is_next number key later part = search (rules, arith, found_number, each_weaker)
 
   pub never_falls : (m : Message) → IsMessage shape type m → NeverFalls (fields shape type) (places m)
   never_falls (ends unknown) h = tt

@@ -1,5 +1,5 @@
 -- The bytes of a child are fewer than those of the message around it.
-use Rattle.std.proofs.Common.{◌≡◌, ℕ, ◌<◌, ◌≤◌, List, map, filter, flat_map, length, true, false, nat_eq, Option, refl, ap, sym, ◌∙◌, arith, length-append, eq-eqb}
+use Rattle.std.proofs.Common.{◌≡◌, ℕ, ◌<◌, ◌≤◌, List, map, filter, flat_map, length, true, false, nat_eq, Option, refl, ap, sym, ◌∙◌, arith, length-append, eq-eqb, rules}
 use Rattle.std.specs.List.{AllByRecursion}
 use Rattle.pg_schema.specs.declared.parts.field.TypeId.{TypeId}
 use Rattle.pg_schema.specs.declared.parts.field.Scalar.{Scalar}
@@ -12,7 +12,6 @@ use Rattle.pg_schema.specs.ShapeRules.{PresenceFits}
 use Rattle.pg_wire.specs.declared.record.WireType.TheVariants.{Len}
 use Rattle.pg_wire.specs.Records.{WireRecord, written}
 use Rattle.pg_dyn.specs.message.Message.{Leaf, Bytes, Message, ends, holds, nests, Part, is_of, unknown_of}
-use Rattle.pg_dyn.specs.word.Coding.{form, form_wire, body}
 use Rattle.pg_dyn.specs.reading.Content.{leaf_bytes}
 use Rattle.pg_dyn.specs.encoding.Writing.{item_record, entry_bytes, key_of, field_records, records_in, bytes_of}
 use Rattle.pg_dyn.specs.encoding.Encoding.{child_type, encoded_parts, enc}
@@ -33,18 +32,11 @@ module _ (number : ℕ) (t : TypeId) where
       (each_both (λ q. length (leaf_bytes q.item) < length (make q).bytes) (λ q. length (make q).bytes ≤ length (flat_map (λ x. (make x).bytes) qs)) qs h (each_within (λ q. (make q).bytes) qs))
 
   item_shorter : (n : ℕ) (leaf : Leaf) → leaf ≡ Bytes (leaf_bytes leaf) → length (leaf_bytes leaf) < length (item_record n (elements.Message t) leaf).bytes
-  item_shorter n leaf nested =
-      let same : length (body (form (elements.Message t)) leaf) ≡ length (leaf_bytes leaf) = ap (λ l. length (body (form (elements.Message t)) l)) nested in
-      omega (arith, length_body-written n (form_wire (form (elements.Message t))) (body (form (elements.Message t)) leaf), same)
+  item_shorter n leaf nested = search (rules, arith, length_body-written)
 
   entry_shorter : (key : Scalar) (k leaf : Leaf) → leaf ≡ Bytes (leaf_bytes leaf) → length (leaf_bytes leaf) < length (written number Len (entry_bytes key (elements.Message t) k leaf)).bytes
   entry_shorter key k leaf nested =
-      omega (
-        arith,
-        item_shorter 2 leaf nested,
-        length_body-written number Len (entry_bytes key (elements.Message t) k leaf),
-        length-append (item_record 1 (elements.Scalar key) k).bytes (item_record 2 (elements.Message t) leaf).bytes,
-      )
+      search (rules, arith, item_shorter, length_body-written, length-append)
 
   shorter_in_field : (p : Presence) (oneof : Option ℕ) → PresenceFits p (elements.Message t) oneof → (qs : List (Part Leaf)) → AllByRecursion (FitsField number p (elements.Message t)) qs → AllByRecursion (λ q. length (leaf_bytes q.item) < length (bytes_of (field_records (field_of number p (elements.Message t) oneof) qs))) qs
   shorter_in_field p oneof fits qs h = of p fits

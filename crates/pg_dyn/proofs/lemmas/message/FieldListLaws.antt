@@ -1,5 +1,5 @@
 -- Fields by rising number, around an index.
-use Rattle.std.proofs.Common.{Bool, Result, Ok, Err, is_ok, OnErr, cond, if◌then◌else◌, ◌≡◌, ◌≢◌, ℕ, zero, suc, ◌+◌, ◌-◌, ◌<◌, ◌≤◌, List, [], ◌∷◌, ◌++◌, length, filter, take, drop, get_or, slice_set, nat_lt, ltb, true, false, refl, ap, sym, ◌∙◌, subst, arith, add-one, lt-ltb, le-ltb}
+use Rattle.std.proofs.Common.{Bool, Result, Ok, Err, is_ok, OnErr, if◌then◌else◌, ◌≡◌, ◌≢◌, ℕ, zero, suc, ◌+◌, ◌-◌, ◌<◌, ◌≤◌, List, [], ◌∷◌, ◌++◌, length, filter, take, drop, get_or, slice_set, nat_lt, ltb, true, false, refl, ap, sym, ◌∙◌, subst, arith, add-one, lt-ltb, le-ltb, rules}
 use Rattle.pg_dyn.proofs.lemmas.message.KeptParts.{at_index}
 use Rattle.std.proofs.lemmas.List.{append-nil, take-append-drop, take-set, drop-set, drop_all}
 use Rattle.std.proofs.Math.Seq.{drop-cons}
@@ -27,9 +27,7 @@ pub below_none : {A : Type 0} (n : ℕ) (ys : List (ℕ × A)) → AllFrom n ys 
 below_none {A} n ys h = filter_none (λ (f : ℕ × A). nat_lt f.0 n) ys (each_weaker (λ (f : ℕ × A). n ≤ f.0) (λ (f : ℕ × A). nat_lt f.0 n ≡ false) (λ f high. le-ltb f.0 n high) ys h)
 
 above_none : {A : Type 0} (n : ℕ) (xs : List (ℕ × A)) → AllBelow n xs → fields_above n xs ≡ []
-above_none {A} n xs h =
-    filter_none (λ (f : ℕ × A). nat_lt n f.0) xs
-    (each_weaker (λ (f : ℕ × A). f.0 < n) (λ (f : ℕ × A). nat_lt n f.0 ≡ false) (λ f low. let not_above : f.0 ≤ n = omega arith in le-ltb n f.0 not_above) xs h)
+above_none {A} n xs h = search (rules, arith, filter_none, each_weaker, le-ltb)
 
 above_all : {A : Type 0} (n : ℕ) (ys : List (ℕ × A)) → AllAbove n ys → fields_above n ys ≡ ys
 above_all {A} n ys h = filter_all (λ (f : ℕ × A). nat_lt n f.0) ys (each_weaker (λ (f : ℕ × A). n < f.0) (λ (f : ℕ × A). nat_lt n f.0 ≡ true) (λ f high. lt-ltb n f.0 high) ys h)
@@ -95,19 +93,10 @@ module _ {A : Type 0} (fs : List (ℕ × A)) (i n : ℕ) (rises : Rises fs) (low
 
 -- the index is past the end, or the field there has another number
 pub apart_past_end : {A : Type 0} (fs : List (ℕ × A)) (i n : ℕ) → length fs ≤ i → (y : ℕ × A) (zs : List (ℕ × A)) → drop i fs ≡ y ∷ zs → y.0 ≢ n
-apart_past_end {A} fs i n past y zs e = absurd (let none : drop i fs ≡ [] = drop_all i fs past in let bad : ◌≡◌ {A = List (ℕ × A)} (y ∷ zs) [] = sym e ∙ none in cons_not_nil y zs bad)
-  where
-    cons_not_nil : (x : ℕ × A) (xs : List (ℕ × A)) → ◌≡◌ {A = List (ℕ × A)} (x ∷ xs) [] → ⊥
-    cons_not_nil x xs h = cc
+apart_past_end {A} fs i n past y zs e = search (rules, drop_all)
 
 pub apart_there : {A : Type 0} (fs : List (ℕ × A)) (i n : ℕ) (d : ℕ × A) → i < length fs → (get_or fs i d).0 ≢ n → (y : ℕ × A) (zs : List (ℕ × A)) → drop i fs ≡ y ∷ zs → y.0 ≢ n
-apart_there {A} fs i n d inside other y zs e =
-    let shape : drop i fs ≡ get_or fs i d ∷ drop (suc i) fs = drop-cons fs i d inside in
-    let same = head_same (get_or fs i d) y (drop (suc i) fs) zs (sym shape ∙ e) in
-    λ k. other (ap (λ (f : ℕ × A). f.0) same ∙ k)
-  where
-    head_same : (x y : ℕ × A) (xs ys : List (ℕ × A)) → x ∷ xs ≡ y ∷ ys → x ≡ y
-    head_same x y xs ys h = cc
+apart_there {A} fs i n d inside other y zs e = search (rules, drop-cons)
 
 -- the numbers don't fall, index by index
 pub non_decreasing : {A : Type 0} (fs : List (ℕ × A)) → Rises fs → IsNonDecreasingBy (λ (f : ℕ × A). f.0) fs
@@ -165,21 +154,12 @@ with_room (Err e) old full room h = absurd (omega arith)
 pub rises-filter : {A : Type 0} (test : ℕ × A → Bool) (fs : List (ℕ × A)) → Rises fs → Rises (filter test fs)
 rises-filter {A} test [] h = tt
 rises-filter {A} test (f ∷ fs) h =
-    elim (test f) as (λ b. test f ≡ b → Rises (cond b (f ∷ filter test fs) (filter test fs))) [
-      | true ↦ λ e. (
-        each_weaker (λ (g : ℕ × A). (f.0 < g.0) × (test g ≡ true)) (λ (g : ℕ × A). f.0 < g.0) (λ g k. k.0) (filter test fs) (each-filter (λ (g : ℕ × A). f.0 < g.0) test fs h.0),
-        rises-filter test fs h.1,
-      )
-      | false ↦ λ e. rises-filter test fs h.1
-    ] refl
+    search (rules, each_weaker, each-filter, rises-filter test fs h.1)
 
 rises-append : {A : Type 0} (n : ℕ) (xs ys : List (ℕ × A)) → Rises xs → AllBelow n xs → AllFrom n ys → Rises ys → Rises (xs ++ ys)
 rises-append {A} n [] ys rises low high h = h
-rises-append {A} n (x ∷ xs) ys rises low high h = (
-  each-append (λ (g : ℕ × A). x.0 < g.0) xs ys rises.0
-      (each_weaker (λ (g : ℕ × A). n ≤ g.0) (λ (g : ℕ × A). x.0 < g.0) (λ g k. let below = low.0 in let over : x.0 < g.0 = omega arith in over) ys high),
-  rises-append n xs ys rises.1 low.1 high h,
-)
+rises-append {A} n (x ∷ xs) ys rises low high h =
+    search (rules, arith, each-append, each_weaker, rises-append n xs ys rises.1 low.1 high h)
 
 abbrev Anything : {A : Type 0} → ℕ × A → Type 0
 Anything {A} f = Unit {0}
@@ -199,21 +179,18 @@ from_above {A} n fs h = each_weaker (λ (f : ℕ × A). n < f.0) (λ (f : ℕ ×
 
 pub rises_put : {A : Type 0} (n : ℕ) (c : A) (fs : List (ℕ × A)) → Rises fs → Rises (put_field n c fs)
 rises_put {A} n c fs h =
-    rises-append n (fields_below n fs) ((n, c) ∷ fields_above n fs) (rises-filter (λ (f : ℕ × A). nat_lt f.0 n) fs h) (are_below n fs)
-    (omega arith, from_above n (fields_above n fs) (are_above n fs)) (are_above n fs, rises-filter (λ (f : ℕ × A). nat_lt n f.0) fs h)
+    search (rules, arith, rises-append, rises-filter, are_below, from_above, are_above)
 
 pub rises_remove : {A : Type 0} (n : ℕ) (fs : List (ℕ × A)) → Rises fs → Rises (remove_field n fs)
 rises_remove {A} n fs h =
-    rises-append n (fields_below n fs) (fields_above n fs) (rises-filter (λ (f : ℕ × A). nat_lt f.0 n) fs h) (are_below n fs)
-    (from_above n (fields_above n fs) (are_above n fs)) (rises-filter (λ (f : ℕ × A). nat_lt n f.0) fs h)
+    search (rules, rises-append, rises-filter, are_below, from_above, are_above)
 
 module _ {A : Type 0} (P : ℕ × A → Type 0) (n : ℕ) where
   each_kept : (test : ℕ × A → Bool) (fs : List (ℕ × A)) → AllByRecursion P fs → AllByRecursion P (filter test fs)
   each_kept test fs h = each_weaker (λ f. P f × (test f ≡ true)) P (λ f k. k.0) (filter test fs) (each-filter P test fs h)
 
   pub each_put : (c : A) (fs : List (ℕ × A)) → P (n, c) → AllByRecursion P fs → AllByRecursion P (put_field n c fs)
-  each_put c fs new h =
-      each-append P (fields_below n fs) ((n, c) ∷ fields_above n fs) (each_kept (λ (f : ℕ × A). nat_lt f.0 n) fs h) (new, each_kept (λ (f : ℕ × A). nat_lt n f.0) fs h)
+  each_put c fs new h = search (rules, each-append, each_kept)
 
   pub each_removed : (fs : List (ℕ × A)) → AllByRecursion P fs → AllByRecursion P (remove_field n fs)
   each_removed fs h = each-append P (fields_below n fs) (fields_above n fs) (each_kept (λ (f : ℕ × A). nat_lt f.0 n) fs h) (each_kept (λ (f : ℕ × A). nat_lt n f.0) fs h)

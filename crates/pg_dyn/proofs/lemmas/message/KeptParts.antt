@@ -1,5 +1,5 @@
 -- The parts that a message's fields show, whatever kind its contents are of.
-use Rattle.std.proofs.Common.{◌≡◌, ℕ, zero, suc, ◌<◌, ◌≢◌, List, [], ◌∷◌, ◌++◌, length, filter, get_or, nat_eq, refl, ap, ap₂, sym, subst, ◌∙◌, arith, eq-eqb, ne_eqb}
+use Rattle.std.proofs.Common.{◌≡◌, ℕ, zero, suc, ◌<◌, ◌≢◌, List, [], ◌∷◌, ◌++◌, length, filter, get_or, nat_eq, refl, ap, ap₂, sym, subst, ◌∙◌, arith, eq-eqb, ne_eqb, rules}
 use Rattle.std.proofs.lemmas.List.{append-nil}
 use Rattle.std.specs.List.{AllByRecursion}
 use Rattle.pg_schema.specs.declared.parts.field.TypeId.{TypeId}
@@ -45,9 +45,7 @@ module _ {C : Type 0} (parts : ℕ → C → List (Part KeptItem)) (numbered : (
   one_at (f ∷ fs) zero d inside rises is =
       filter-append' (is_of m) (parts f.0 f.1) (all_parts parts fs) ∙ ap₂ (λ xs ys. xs ++ ys) (own f.0 f.1 is) (none_of fs (above f.0 fs is rises.0)) ∙ append-nil (parts f.0 f.1)
   one_at (f ∷ fs) (suc i) d inside rises is =
-      let low = at_index (λ (g : ℕ × C). f.0 < g.0) fs i d (omega arith) rises.0 in
-      let apart : f.0 ≢ m = λ e. absurd (omega (arith, low, is, e)) in
-      filter-append' (is_of m) (parts f.0 f.1) (all_parts parts fs) ∙ ap (λ xs. xs ++ filter (is_of m) (all_parts parts fs)) (other f.0 f.1 apart) ∙ one_at fs i d (omega arith) rises.1 is
+      search (rules, arith, at_index, filter-append', other, one_at fs i d)
 
   shown : (type : TypeId) (fs : List (ℕ × C)) (us : List WireRecord) → parts_of (kept_onto (all_parts parts fs) (ends type us)) ≡ all_parts parts fs
   shown type fs us = parts_of-kept_onto (all_parts parts fs) (ends type us) ∙ append-nil (all_parts parts fs)
@@ -55,10 +53,7 @@ module _ {C : Type 0} (parts : ℕ → C → List (Part KeptItem)) (numbered : (
   -- the field that a look-up found, and none
   pub found_field : (fs : List (ℕ × C)) (i : ℕ) (r : ℕ × C) (type : TypeId) (us : List WireRecord) → i < length fs → Rises fs → r ≡ get_or fs i r → r.0 ≡ m
       → of_number m (kept_onto (all_parts parts fs) (ends type us)) ≡ parts m r.1
-  found_field fs i r type us inside rises is number =
-      ap (filter (is_of m)) (shown type fs us)
-      ∙ one_at fs i r inside rises (ap (λ (f : ℕ × C). f.0) (sym is) ∙ number)
-      ∙ ap (λ (f : ℕ × C). parts f.0 f.1) (sym is) ∙ ap (λ n. parts n r.1) number
+  found_field fs i r type us inside rises is number = search (rules, shown, one_at)
 
   pub of_number_none : (fs : List (ℕ × C)) (type : TypeId) (us : List WireRecord) → AllByRecursion (λ (f : ℕ × C). f.0 ≢ m) fs
       → of_number m (kept_onto (all_parts parts fs) (ends type us)) ≡ []

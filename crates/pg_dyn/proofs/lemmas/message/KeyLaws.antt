@@ -1,5 +1,5 @@
 -- Entries in the order of their keys.
-use Rattle.std.proofs.Common.{Bor, ◌≡◌, ℕ, ℤ, zero, suc, ◌<◌, ◌≤◌, ◌+◌, List, [], ◌∷◌, length, map, filter, get_or, Bool, true, false, true≢false, cond, ◌⊎◌, inl, inr, ⊎_elim, refl, ap, ap₂, sym, subst, ◌∙◌, arith, add-one}
+use Rattle.std.proofs.Common.{Bor, ◌≡◌, ℕ, ℤ, zero, suc, ◌<◌, ◌≤◌, ◌+◌, List, [], ◌∷◌, length, map, filter, get_or, Bool, true, false, true≢false, cond, ◌⊎◌, inl, inr, ⊎_elim, refl, ap, ap₂, sym, subst, ◌∙◌, arith, add-one, rules}
 use Rattle.std.specs.Prelude.{◌<ℤ◌, sum_by}
 use Rattle.std.specs.List.{AllByRecursion}
 use Rattle.std.specs.List.Sorted.{IsPermutation, IsSortedBy}
@@ -14,7 +14,6 @@ use Rattle.std.proofs.lemmas.List.MinMax.{ranks_by}
 use Rattle.std.proofs.lemmas.List.Sums.{length-filter}
 use Rattle.std.proofs.lemmas.List.Sorted.{All-permutation, sum_by-IsPermutation}
 use Rattle.pg_dyn.specs.declared.message.Value.{Value}
-use Rattle.pg_dyn.specs.declared.message.Value.TheVariants as values
 use Rattle.pg_dyn.specs.reading.Content.{leaf_bytes}
 use Rattle.pg_dyn.specs.setting.ContentFaults.{HasEntryTwice, PassTwice}
 use Rattle.pg_dyn.specs.fitting.ContentFits.{KeysRise}
@@ -36,30 +35,16 @@ ranks_entries = ranks_by rank_total (λ (e : Value × Value). leaf_of e.0)
 -- Two keys of one kind.
 
 then_equal : (o : Ordering) → ordering_then o Equal ≡ o
-then_equal Less = refl
-then_equal Equal = refl
-then_equal Greater = refl
+then_equal o = grind arith
 
 pub rank_is : (k l : Leaf) → AreSame k l → rank_cmp k l ≡ key_cmp k l
-rank_is (Int m) (Int n) h = then_equal (int_cmp m n)
-rank_is (Int m) (F32 b) h = absurd h
-rank_is (Int m) (F64 b) h = absurd h
-rank_is (Int m) (Bytes b) h = absurd h
-rank_is (F32 a) l h = absurd h
-rank_is (F64 a) l h = absurd h
-rank_is (Bytes a) (Int n) h = absurd h
-rank_is (Bytes a) (F32 b) h = absurd h
-rank_is (Bytes a) (F64 b) h = absurd h
-rank_is (Bytes a) (Bytes b) h = refl
+rank_is k l h = grind (arith, then_equal)
 
 less_self : {K : Type 0} (R : K → K → Ordering) → IsTotalOrder R → (x : K) → R x x ≡ Less → ⊥
 less_self R o x h = absurd (let flipped : Less ≡ Greater = sym h ∙ o.antisymm x x ∙ ap ordering_reverse h in cc)
 
 pub key_less_self : (k : Leaf) → key_cmp k k ≡ Less → ⊥
-key_less_self (Int n) h = less_self int_cmp int_cmp_total n h
-key_less_self (F32 b) h = absurd (cc)
-key_less_self (F64 b) h = absurd (cc)
-key_less_self (Bytes b) h = less_self (slice_cmp nat_cmp) nat_list_cmp_total b h
+key_less_self k h = grind (arith, less_self, int_cmp_total, nat_list_cmp_total)
 
 equal_numbers : (m n : ℤ) → int_cmp m n ≡ Equal → m ≡ n
 equal_numbers m n e = by_ranked (m <ℤ n) (m ≡ n) (n <ℤ m) (int_cmp m n) (int_ranked m n (int_cmp m n) refl) (λ o h. absurd (cc)) (λ o h. h) (λ o h. absurd (cc))
@@ -71,12 +56,7 @@ equal_texts : (a b : List ℕ) → slice_cmp nat_cmp a b ≡ Equal → a ≡ b
 equal_texts [] [] e = refl
 equal_texts [] (y ∷ b) e = absurd (cc)
 equal_texts (x ∷ a) [] e = absurd (cc)
-equal_texts (x ∷ a) (y ∷ b) e = of (nat_cmp x y) refl (λ h. equal_texts a b h) e
-  where
-    of : (o : Ordering) → nat_cmp x y ≡ o → (slice_cmp nat_cmp a b ≡ Equal → a ≡ b) → ordering_then o (slice_cmp nat_cmp a b) ≡ Equal → x ∷ a ≡ y ∷ b
-    of Less is rest h = absurd (cc)
-    of Greater is rest h = absurd (cc)
-    of Equal is rest h = ap₂ (λ z zs. z ∷ zs) (equal_bytes x y is) (rest h)
+equal_texts (x ∷ a) (y ∷ b) e = search (rules, equal_texts a b, equal_bytes)
 
 pub equal_leaves : (k l : Leaf) → AreSame k l → rank_cmp k l ≡ Equal → k ≡ l
 equal_leaves (Int m) (Int n) h e = ap Int (equal_numbers m n (sym (then_equal (int_cmp m n)) ∙ e))
@@ -92,87 +72,34 @@ equal_leaves (Bytes a) (Bytes b) h e = ap Bytes (equal_texts a b e)
 
 -- of two keys of one kind the first is below, or the second, or they are equal
 pub compared : (k l : Leaf) → AreSame k l → (key_cmp k l ≡ Less) ⊎ ((key_cmp l k ≡ Less) ⊎ (k ≡ l))
-compared (Int m) (Int n) h = of (int_cmp m n) refl
-  where
-    of : (o : Ordering) → int_cmp m n ≡ o → (int_cmp m n ≡ Less) ⊎ ((int_cmp n m ≡ Less) ⊎ (Int m ≡ Int n))
-    of Less e = inl e
-    of Greater e = inr (inl (int_cmp_total.antisymm n m ∙ ap ordering_reverse e))
-    of Equal e = inr (inr (ap Int (equal_numbers m n e)))
-compared (Int m) (F32 b) h = absurd h
-compared (Int m) (F64 b) h = absurd h
-compared (Int m) (Bytes b) h = absurd h
-compared (F32 a) l h = absurd h
-compared (F64 a) l h = absurd h
-compared (Bytes a) (Int n) h = absurd h
-compared (Bytes a) (F32 b) h = absurd h
-compared (Bytes a) (F64 b) h = absurd h
-compared (Bytes a) (Bytes b) h = of (slice_cmp nat_cmp a b) refl
-  where
-    of : (o : Ordering) → slice_cmp nat_cmp a b ≡ o → (slice_cmp nat_cmp a b ≡ Less) ⊎ ((slice_cmp nat_cmp b a ≡ Less) ⊎ (Bytes a ≡ Bytes b))
-    of Less e = inl e
-    of Greater e = inr (inl (nat_list_cmp_total.antisymm b a ∙ ap ordering_reverse e))
-    of Equal e = inr (inr (ap Bytes (equal_texts a b e)))
+compared k l h = grind (arith, int_cmp_total, equal_numbers, nat_list_cmp_total, equal_texts)
 
 -- Entries of which the keys are alike.
 
 pub number_same : (v w : Value) → IsNumber v → IsNumber w → AreSame (leaf_of v) (leaf_of w)
-number_same (values.Int x) (values.Int y) h k = tt
-number_same (values.Int x) (values.F32 y) h k = absurd k
-number_same (values.Int x) (values.F64 y) h k = absurd k
-number_same (values.Int x) (values.Text y) h k = absurd k
-number_same (values.Int x) (values.Bytes y) h k = absurd k
-number_same (values.Int x) (values.Msg y) h k = absurd k
-number_same (values.F32 x) w h k = absurd h
-number_same (values.F64 x) w h k = absurd h
-number_same (values.Text x) w h k = absurd h
-number_same (values.Bytes x) w h k = absurd h
-number_same (values.Msg x) w h k = absurd h
+number_same v w h k = grind arith
 
 bytes_same : (bs : List ℕ) (w : Value) → IsText w → AreSame (Bytes bs) (leaf_of w)
-bytes_same bs (values.Int x) h = absurd h
-bytes_same bs (values.F32 x) h = absurd h
-bytes_same bs (values.F64 x) h = absurd h
-bytes_same bs (values.Text x) h = tt
-bytes_same bs (values.Bytes x) h = tt
-bytes_same bs (values.Msg x) h = absurd h
+bytes_same bs w h = grind arith
 
 pub text_same : (v w : Value) → IsText v → IsText w → AreSame (leaf_of v) (leaf_of w)
-text_same (values.Int x) w h k = absurd h
-text_same (values.F32 x) w h k = absurd h
-text_same (values.F64 x) w h k = absurd h
-text_same (values.Text x) w h k = bytes_same (leaf_bytes (leaf_of (values.Text x))) w k
-text_same (values.Bytes x) w h k = bytes_same (leaf_bytes (leaf_of (values.Bytes x))) w k
-text_same (values.Msg x) w h k = absurd h
+text_same v w h k = grind (arith, bytes_same)
 
 number_key : (v : Value) → IsNumber v → IsKey v
-number_key (values.Int x) h = tt
-number_key (values.F32 x) h = absurd h
-number_key (values.F64 x) h = absurd h
-number_key (values.Text x) h = absurd h
-number_key (values.Bytes x) h = absurd h
-number_key (values.Msg x) h = absurd h
+number_key v h = grind arith
 
 text_key : (v : Value) → IsText v → IsKey v
-text_key (values.Int x) h = absurd h
-text_key (values.F32 x) h = absurd h
-text_key (values.F64 x) h = absurd h
-text_key (values.Text x) h = tt
-text_key (values.Bytes x) h = tt
-text_key (values.Msg x) h = absurd h
+text_key v h = grind arith
 
 pub alike_keys : (es : List (Value × Value)) → AreAlike es → AllByRecursion (λ (e : Value × Value). IsKey e.0) es
-alike_keys es h =
-    ⊎_elim (λ n. each_weaker (λ (e : Value × Value). IsNumber e.0) (λ (e : Value × Value). IsKey e.0) (λ e. number_key e.0) es n)
-    (λ t. each_weaker (λ (e : Value × Value). IsText e.0) (λ (e : Value × Value). IsKey e.0) (λ e. text_key e.0) es t) h
+alike_keys es h = search (rules, each_weaker, number_key, text_key)
 
 from_places : {A : Type 0} (P : A → Type 0) (xs : List A) → ((k : ℕ) (d : A) → k < length xs → P (get_or xs k d)) → AllByRecursion P xs
 from_places P [] h = tt
 from_places P (x ∷ xs) h = (h 0 x (omega arith), from_places P xs (λ k d inside. h (suc k) d (omega arith)))
 
 pub alike_at : (es : List (Value × Value)) (i j : ℕ) (d e : Value × Value) → i < length es → j < length es → AreAlike es → AreSame (leaf_of (get_or es i d).0) (leaf_of (get_or es j e).0)
-alike_at es i j d e inside there h =
-    ⊎_elim (λ n. number_same (get_or es i d).0 (get_or es j e).0 (fact_at (λ (x : Value × Value). IsNumber x.0) es i d inside n) (fact_at (λ (x : Value × Value). IsNumber x.0) es j e there n))
-    (λ t. text_same (get_or es i d).0 (get_or es j e).0 (fact_at (λ (x : Value × Value). IsText x.0) es i d inside t) (fact_at (λ (x : Value × Value). IsText x.0) es j e there t)) h
+alike_at es i j d e inside there h = search (rules, number_same, fact_at, text_same)
 
 -- what holds of each holds of each in another order
 pub each_moved : {A : Type 0} (P : A → Type 0) (xs ys : List A) → IsPermutation xs ys → AllByRecursion P xs → AllByRecursion P ys
@@ -199,14 +126,9 @@ twice_back es fs moved h = (h.0, let count = count_moved (λ (e : Value × Value
 pub neighbours_twice : {A : Type 0} (test : A → Bool) (xs : List A) (k : ℕ) (d e : A) → suc k < length xs → test (get_or xs k d) ≡ true → test (get_or xs (suc k) e) ≡ true → PassTwice test xs
 neighbours_twice test [] k d e inside one two = absurd (omega arith)
 neighbours_twice test (x ∷ []) k d e inside one two = absurd (omega arith)
-neighbours_twice test (x ∷ y ∷ xs) zero d e inside one two =
-    let all : filter test (x ∷ y ∷ xs) ≡ x ∷ y ∷ filter test xs = ap (λ b. cond b (x ∷ filter test (y ∷ xs)) (filter test (y ∷ xs))) one ∙ ap (λ b. x ∷ cond b (y ∷ filter test xs) (filter test xs)) two in
-    omega (arith, ap length all)
-neighbours_twice test (x ∷ y ∷ xs) (suc k) d e inside one two = more (test x) (neighbours_twice test (y ∷ xs) k d e (omega arith) one two)
-  where
-    more : (b : Bool) → 1 < length (filter test (y ∷ xs)) → 1 < length (cond b (x ∷ filter test (y ∷ xs)) (filter test (y ∷ xs)))
-    more true h = omega arith
-    more false h = h
+neighbours_twice test (x ∷ y ∷ xs) zero d e inside one two = search (rules, arith)
+neighbours_twice test (x ∷ y ∷ xs) (suc k) d e inside one two =
+    search (rules, arith, neighbours_twice test (y ∷ xs) k d e)
 
 -- neighbours that rank alike have one key
 pub equal_twice : (es : List (Value × Value)) (k : ℕ) (d e : Value × Value) → suc k < length es → AreAlike es → rank_cmp (leaf_of (get_or es k d).0) (leaf_of (get_or es (suc k) e).0) ≡ Equal → HasEntryTwice es
@@ -221,8 +143,7 @@ equal_twice es k d e inside alike equal =
 
 one_default : (es : List (Value × Value)) (k : ℕ) (d e : Value × Value) → suc k < length es → IsSortedBy ranks_below es → ranks_below (get_or es (suc k) e) (get_or es k d) ≡ false
 one_default es k d e inside sorted =
-    let here : ranks_below (get_or es (k + 1) d) (get_or es k d) ≡ false = sorted k d (omega arith) (omega arith) in
-    subst (λ x. ranks_below x (get_or es k d) ≡ false) (same_default es (suc k) d e inside) (subst (λ i. ranks_below (get_or es i d) (get_or es k d) ≡ false) (add-one k) here)
+    search (rules, arith, same_default es (suc k) d e inside, add-one k)
 
 -- entries in order, of which no neighbours are equal, rise
 pub sorted_rise : (es : List (Value × Value)) → AreAlike es → IsSortedBy ranks_below es → ((k : ℕ) (d e : Value × Value) → suc k < length es → rank_cmp (leaf_of (get_or es k d).0) (leaf_of (get_or es (suc k) e).0) ≡ Equal → ⊥) → KeysRise es
@@ -245,12 +166,7 @@ sorted_rise es alike sorted apart = rises_from es (λ k d e inside. below k d e 
 
 none_equal : (key : Leaf) (es : List (Value × Value)) → AllByRecursion (λ (x : Value × Value). key_cmp key (leaf_of x.0) ≡ Less) es → filter (λ (x : Value × Value). leaf_eq (leaf_of x.0) key) es ≡ []
 none_equal key [] h = refl
-none_equal key (e ∷ es) h = of (leaf_eq (leaf_of e.0) key) refl (none_equal key es h.1)
-  where
-    of : (b : Bool) → leaf_eq (leaf_of e.0) key ≡ b → filter (λ (x : Value × Value). leaf_eq (leaf_of x.0) key) es ≡ []
-        → cond b (e ∷ filter (λ (x : Value × Value). leaf_eq (leaf_of x.0) key) es) (filter (λ (x : Value × Value). leaf_eq (leaf_of x.0) key) es) ≡ []
-    of true is rest = absurd (key_less_self key (ap (key_cmp key) (sym (same_leaf (leaf_of e.0) key is)) ∙ h.0))
-    of false is rest = rest
+none_equal key (e ∷ es) h = search (rules, none_equal key es h.1, key_less_self, same_leaf)
 
 at_most_one : (es : List (Value × Value)) (key : Leaf) → KeysRise es → length (filter (λ (x : Value × Value). leaf_eq (leaf_of x.0) key) es) ≤ 1
 at_most_one [] key rise = omega arith

@@ -1,11 +1,8 @@
 -- The content of a field that is no map is read again from the records that are written of it.
-use Rattle.std.proofs.Common.{◌≡◌, ℕ, ◌≤◌, List, [], ◌∷◌, ◌++◌, map, flat_map, length, true, false, Some, Ok, refl, ap, sym, ◌∙◌, arith, append-nil}
+use Rattle.std.proofs.Common.{◌≡◌, ℕ, ◌≤◌, List, [], ◌∷◌, ◌++◌, map, flat_map, length, true, false, Some, Ok, refl, ap, arith, append-nil}
 use Rattle.std.specs.List.{AllByRecursion}
-use Rattle.pg_schema.specs.declared.parts.field.Scalar.TheVariants as scalars
 use Rattle.pg_schema.specs.declared.parts.field.Element.{Element}
-use Rattle.pg_schema.specs.declared.parts.field.Element.TheVariants as elements
 use Rattle.pg_schema.specs.declared.parts.field.Presence.{Presence}
-use Rattle.pg_schema.specs.declared.parts.field.Presence.TheVariants as presences
 use Rattle.pg_schema.specs.Shape.{FieldShape, is_packable, is_repeated}
 use Rattle.pg_wire.specs.declared.record.WireType.{WireType}
 use Rattle.pg_wire.specs.declared.record.WireType.TheVariants.{Varint, I64, Len, I32}
@@ -16,18 +13,15 @@ use Rattle.pg_wire.proofs.Rows.{row-joined}
 use Rattle.pg_wire.proofs.Varints.{varint_at-append, length-IsVarint}
 use Rattle.pg_wire.proofs.RecordLaws.{exactly-append}
 use Rattle.pg_dyn.specs.reading.Optional.{all_some}
-use Rattle.pg_dyn.specs.message.Message.{Leaf, Bytes}
+use Rattle.pg_dyn.specs.message.Message.{Leaf}
 use Rattle.pg_dyn.specs.laws.Bodies.{IsNestedLeaf, IsReadAs, record_with}
 use Rattle.pg_dyn.specs.word.Coding.{HasShape, form, form_wire, leaf_in, element_at}
-use Rattle.pg_dyn.specs.reading.Content.{same_wire, packed_leaves, leaves_in, leaf_bytes, last_item, plain_content}
+use Rattle.pg_dyn.specs.reading.Content.{same_wire, packed_leaves, leaves_in, last_item, plain_content}
 use Rattle.pg_dyn.specs.fitting.Belonging.{MayBeZero}
 use Rattle.pg_dyn.proofs.Lists.{all_some-map_map, flat_map-map, each-map, each_weaker}
 
 pub same_wire_self : (wire : WireType) → same_wire wire wire ≡ true
-same_wire_self Varint = refl
-same_wire_self I64 = refl
-same_wire_self Len = refl
-same_wire_self I32 = refl
+same_wire_self wire = grind arith
 
 -- a body of a packed list's element: not of LEN
 abbrev pub Packed : WireType → List ℕ → Type 0
@@ -37,29 +31,16 @@ Packed I32 bytes = length bytes ≡ 4
 Packed Len bytes = ⊥
 
 element_at-append : (wire : WireType) (bytes rest : List ℕ) → Packed wire bytes → element_at wire (bytes ++ rest) ≡ Ok (bytes, rest)
-element_at-append Varint bytes rest h = varint_at-append bytes rest h
-element_at-append I64 bytes rest h = exactly-append bytes rest 8 h
-element_at-append I32 bytes rest h = exactly-append bytes rest 4 h
-element_at-append Len bytes rest h = absurd h
+element_at-append wire bytes rest h = grind (arith, varint_at-append, exactly-append)
 
 length-Packed : (wire : WireType) (bytes : List ℕ) → Packed wire bytes → 1 ≤ length bytes
-length-Packed Varint bytes h = length-IsVarint bytes h
-length-Packed I64 bytes h = omega arith
-length-Packed I32 bytes h = omega arith
-length-Packed Len bytes h = absurd h
+length-Packed wire bytes h = grind (arith, length-IsVarint)
 
 pub packable_wire : (e : Element) → is_packable e ≡ true → same_wire Len (form_wire (form e)) ≡ false
-packable_wire (elements.Scalar scalars.String) h = absurd (cc)
-packable_wire (elements.Scalar scalars.Bytes) h = absurd (cc)
-packable_wire (elements.Scalar s) h = refl
-packable_wire (elements.Enum e) h = refl
-packable_wire (elements.Message t) h = absurd (cc)
+packable_wire e h = grind arith
 
 packed_shape : (wire : WireType) (bytes : List ℕ) → same_wire Len wire ≡ false → HasShape wire bytes → Packed wire bytes
-packed_shape Varint bytes h shape = shape
-packed_shape I64 bytes h shape = shape
-packed_shape I32 bytes h shape = shape
-packed_shape Len bytes h shape = absurd (cc)
+packed_shape wire bytes h shape = grind arith
 
 module _ {A : Type 0} (e : Element) (bytes : A → List ℕ) (item : A → Leaf) where
   -- bodies joined are the items of a packed list
@@ -87,26 +68,10 @@ module _ {A : Type 0} (e : Element) (bytes : A → List ℕ) (item : A → Leaf)
 
 -- one item is the content of a singular field
 pub last_item_one : (p : Presence) (e : Element) (leaf : Leaf) → MayBeZero p leaf → IsNestedLeaf e leaf → last_item p e (leaf ∷ []) ≡ leaf ∷ []
-last_item_one p (elements.Message t) leaf h nested = ap (λ l. l ∷ []) (ap Bytes (append-nil (leaf_bytes leaf)) ∙ sym nested)
-last_item_one presences.Implicit (elements.Scalar s) leaf h nested = rw h
-last_item_one presences.Explicit (elements.Scalar s) leaf h nested = refl
-last_item_one (presences.Repeated packed) (elements.Scalar s) leaf h nested = refl
-last_item_one (presences.Map key) (elements.Scalar s) leaf h nested = refl
-last_item_one presences.Implicit (elements.Enum e) leaf h nested = rw h
-last_item_one presences.Explicit (elements.Enum e) leaf h nested = refl
-last_item_one (presences.Repeated packed) (elements.Enum e) leaf h nested = refl
-last_item_one (presences.Map key) (elements.Enum e) leaf h nested = refl
+last_item_one p e leaf h nested = grind (arith, append-nil)
 
 pub last_item_none : (p : Presence) (e : Element) → last_item p e [] ≡ []
-last_item_none p (elements.Message t) = refl
-last_item_none presences.Implicit (elements.Scalar s) = refl
-last_item_none presences.Explicit (elements.Scalar s) = refl
-last_item_none (presences.Repeated packed) (elements.Scalar s) = refl
-last_item_none (presences.Map key) (elements.Scalar s) = refl
-last_item_none presences.Implicit (elements.Enum e) = refl
-last_item_none presences.Explicit (elements.Enum e) = refl
-last_item_none (presences.Repeated packed) (elements.Enum e) = refl
-last_item_none (presences.Map key) (elements.Enum e) = refl
+last_item_none p e = grind arith
 
 -- the content of a singular field with one item
 pub plain_content_one : (f : FieldShape) (bytes : List ℕ) (leaf : Leaf) → is_repeated f.presence ≡ false → IsReadAs (form f.element) bytes leaf → MayBeZero f.presence leaf → IsNestedLeaf f.element leaf → plain_content f (record_with f.number f.element bytes ∷ []) ≡ Some (leaf ∷ [])

@@ -1,5 +1,5 @@
 -- A content under a number, among the parts of a message.
-use Rattle.std.proofs.Common.{◌≡◌, ℕ, List, [], ◌∷◌, ◌++◌, map, filter, nat_lt, nat_eq, Bool, true, false, cond, not, ◌&&◌, Option, None, refl, ap, ap₂, sym, ◌∙◌}
+use Rattle.std.proofs.Common.{◌≡◌, ℕ, List, [], ◌∷◌, ◌++◌, map, filter, nat_lt, Bool, true, false, Option, None, refl, ap, ◌∙◌, rules}
 use Rattle.std.proofs.lemmas.List.{append-nil}
 use Rattle.pg_schema.specs.declared.parts.field.Element.{Element}
 use Rattle.pg_schema.specs.declared.parts.field.TypeId.{TypeId}
@@ -7,15 +7,14 @@ use Rattle.pg_schema.specs.Shape.{FieldShape}
 use Rattle.pg_wire.specs.Records.{WireRecord}
 use Rattle.pg_dyn.specs.declared.message.Content.{Content}
 use Rattle.pg_dyn.specs.declared.message.Content.TheVariants as contents
-use Rattle.pg_dyn.specs.message.Message.{Leaf, Part, Item, Message, message_from}
+use Rattle.pg_dyn.specs.message.Message.{Leaf, Part, Item, message_from}
 use Rattle.pg_dyn.specs.message.Message as model
 use Rattle.pg_dyn.specs.message.Kept.{Kept, ends, holds, nests, type_of, message_of}
 use Rattle.pg_dyn.specs.message.KeptParts.{AreOf, KeptItem, Plain, Msg, parts_of, unknown_of}
 use Rattle.pg_dyn.specs.message.Seen.{all_seen, content_seen, entry_part, fields_onto, item_part}
 use Rattle.pg_dyn.specs.message.FieldList.{fields_below, fields_above, put_field, remove_field}
-use Rattle.pg_dyn.specs.reading.Content.{is_sibling}
-use Rattle.pg_dyn.specs.message.Replacing.{all_parts, kept_part, kept_onto, kept_from, with_parts, is_sibling_number, without_siblings}
-use Rattle.pg_dyn.specs.fitting.Texts.{kept_in, kept_item}
+use Rattle.pg_dyn.specs.message.Replacing.{all_parts, kept_part, kept_onto, kept_from, with_parts, without_siblings}
+use Rattle.pg_dyn.specs.fitting.Texts.{kept_in}
 use Rattle.pg_dyn.proofs.Lists.{filter_all, filter_none, filter-append', each_weaker, each-map, each_of_all, flat_map-append', list_any_none}
 use Rattle.pg_dyn.proofs.lemmas.fitting.NoSiblings.{no_sibling}
 
@@ -40,20 +39,7 @@ unknown_of-kept_onto (p ∷ ps) later = (part_shown p.number p.key p.item (kept_
 -- parts mean the same where they are kept as an element's
 pub kept_means : (e : Element) (ps : List (Part KeptItem)) (later : Kept) → message_of (kept_onto (map (kept_in e) ps) later) ≡ message_of (kept_onto ps later)
 kept_means e [] later = refl
-kept_means e (p ∷ ps) later =
-    one p.item (kept_onto (map (kept_in e) ps) later) ∙ ap (λ m. with_item p.item m) (kept_means e ps later) ∙ sym (plain p.item (kept_onto ps later))
-  where
-    with_item : KeptItem → Message → Message
-    with_item (Plain manner leaf) m = model.holds p.number p.key leaf m
-    with_item (Msg listed child) m = model.nests p.number p.key (message_of child) m
-
-    one : (item : KeptItem) (rest : Kept) → message_of (kept_part p.number p.key (kept_item e item) rest) ≡ with_item item (message_of rest)
-    one (Plain manner leaf) rest = refl
-    one (Msg listed child) rest = refl
-
-    plain : (item : KeptItem) (rest : Kept) → message_of (kept_part p.number p.key item rest) ≡ with_item item (message_of rest)
-    plain (Plain manner leaf) rest = refl
-    plain (Msg listed child) rest = refl
+kept_means e (p ∷ ps) later = search (rules, kept_means e ps later)
 
 pub type_of-kept_onto : (ps : List (Part KeptItem)) (later : Kept) → type_of (kept_onto ps later) ≡ type_of later
 type_of-kept_onto [] later = refl
@@ -62,10 +48,7 @@ type_of-kept_onto (p ∷ ps) later = (part_shown p.number p.key p.item (kept_ont
 -- a message of these contents is made of them, its type and its unknown records
 pub shown_whole : {C : Type 0} (parts : ℕ → C → List (Part KeptItem)) (ms : List (ℕ × C)) (type : TypeId) (us : List WireRecord) (m : Kept) → kept_onto (all_parts parts ms) (ends type us) ≡ m
     → m ≡ kept_onto (all_parts parts ms) (ends (type_of m) (unknown_of m))
-shown_whole parts ms type us m view =
-    sym view
-    ∙ ap₂ (λ t u. kept_onto (all_parts parts ms) (ends t u)) (sym (type_of-kept_onto (all_parts parts ms) (ends type us)) ∙ ap type_of view)
-    (sym (unknown_of-kept_onto (all_parts parts ms) (ends type us)) ∙ ap unknown_of view)
+shown_whole parts ms type us m view = search (rules, type_of-kept_onto, unknown_of-kept_onto)
 
 -- a message is made of what it shows
 pub kept_whole : (m : Kept) → kept_from (type_of m) (parts_of m) (unknown_of m) ≡ m
@@ -105,26 +88,22 @@ module _ (test : ℕ → Bool) where
   pub seen-filter : (ms : List (ℕ × Content)) → filter (λ (p : Part KeptItem). test p.number) (all_seen ms) ≡ all_seen (filter (λ (f : ℕ × Content). test f.0) ms)
   seen-filter [] = refl
   seen-filter (m ∷ ms) =
-      filter-append' (λ (p : Part KeptItem). test p.number) (content_seen m.0 m.1) (all_seen ms)
-      ∙ elim (test m.0) as (λ b. test m.0 ≡ b → filter (λ (p : Part KeptItem). test p.number) (content_seen m.0 m.1) ++ filter (λ (p : Part KeptItem). test p.number) (all_seen ms) ≡ all_seen (cond b (m ∷ filter (λ (f : ℕ × Content). test f.0) ms) (filter (λ (f : ℕ × Content). test f.0) ms))) [
-        | true ↦ λ e. ap₂ (λ xs ys. xs ++ ys) (kept_all m.0 (content_seen m.0 m.1) (content_number m.0 m.1) e) (seen-filter ms)
-        | false ↦ λ e. ap (λ xs. xs ++ filter (λ (p : Part KeptItem). test p.number) (all_seen ms)) (kept_none m.0 (content_seen m.0 m.1) (content_number m.0 m.1) e) ∙ seen-filter ms
-      ] refl
+      search (rules, filter-append', kept_all, content_number, seen-filter ms, kept_none)
 
 -- other fields around the number are other parts around it
 pub around : (type : TypeId) (n : ℕ) (xs ms : List (ℕ × Content)) (us : List WireRecord)
     → shown type (fields_below n ms ++ (xs ++ fields_above n ms)) us ≡ with_parts n (all_seen xs) (shown type ms us)
 around type n xs ms us =
-    let below = seen-filter (λ k. nat_lt k n) ms in
-    let above = seen-filter (λ k. nat_lt n k) ms in
-    let parts_are = parts_shown type ms us in
-    ap (λ ps. kept_onto ps (ends type us))
-    (flat_map-append' (λ (f : ℕ × Content). content_seen f.0 f.1) (fields_below n ms) (xs ++ fields_above n ms)
-    ∙ ap (λ ps. all_seen (fields_below n ms) ++ ps) (flat_map-append' (λ (f : ℕ × Content). content_seen f.0 f.1) xs (fields_above n ms))
-    ∙ ap₂ (λ ps qs. ps ++ (all_seen xs ++ qs)) (sym below) (sym above)
-    ∙ ap (λ ps. filter (λ (p : Part KeptItem). nat_lt p.number n) ps ++ (all_seen xs ++ filter (λ (p : Part KeptItem). nat_lt n p.number) ps)) (sym parts_are))
-    ∙ ap₂ (λ t u. kept_from t (filter (λ (p : Part KeptItem). nat_lt p.number n) (parts_of (shown type ms us)) ++ (all_seen xs ++ filter (λ (p : Part KeptItem). nat_lt n p.number) (parts_of (shown type ms us)))) u)
-    (sym (type_shown type ms us)) (sym (unknown_shown type ms us))
+    search (
+      rules,
+      seen-filter (λ k. nat_lt k n) ms,
+      seen-filter (λ k. nat_lt n k) ms,
+      parts_shown type ms us,
+      flat_map-append' (λ (f : ℕ × Content). content_seen f.0 f.1) (fields_below n ms) (xs ++ fields_above n ms),
+      flat_map-append' (λ (f : ℕ × Content). content_seen f.0 f.1) xs (fields_above n ms),
+      type_shown type ms us,
+      unknown_shown type ms us,
+    )
 
 pub put_shows : (type : TypeId) (n : ℕ) (c : Content) (ms : List (ℕ × Content)) (us : List WireRecord) → shown type (put_field n c ms) us ≡ with_parts n (content_seen n c) (shown type ms us)
 put_shows type n c ms us = around type n ((n, c) ∷ []) ms us ∙ ap (λ ps. with_parts n ps (shown type ms us)) (append-nil (content_seen n c))
@@ -134,25 +113,15 @@ remove_shows type n ms us = around type n [] ms us
 
 -- a message of other parts is of the same type
 pub type_of-with_parts : (n : ℕ) (ps : List (Part KeptItem)) (m : Kept) → type_of (with_parts n ps m) ≡ type_of m
-type_of-with_parts n ps m =
-    type_of-kept_onto
-    (filter (λ (p : Part KeptItem). nat_lt p.number n) (parts_of m) ++ (ps ++ filter (λ (p : Part KeptItem). nat_lt n p.number) (parts_of m)))
-    (ends (type_of m) (unknown_of m))
+type_of-with_parts n ps m = search (rules, type_of-kept_onto)
 
 pub type_of-without_siblings : (fs : List FieldShape) (f : FieldShape) (m : Kept) → type_of (without_siblings fs f m) ≡ type_of m
-type_of-without_siblings fs f m =
-    type_of-kept_onto (filter (λ (p : Part KeptItem). not (is_sibling_number fs f p.number)) (parts_of m)) (ends (type_of m) (unknown_of m))
+type_of-without_siblings fs f m = search (rules, type_of-kept_onto)
 
 -- a field outside all oneofs has no siblings
 pub no_siblings : (fs : List FieldShape) (f : FieldShape) (m : Kept) → f.oneof ≡ None → without_siblings fs f m ≡ m
 no_siblings fs f m alone =
-    ap (λ ps. kept_from (type_of m) ps (unknown_of m))
-    (filter_all (λ (p : Part KeptItem). not (is_sibling_number fs f p.number)) (parts_of m)
-    (each_of_all (λ (p : Part KeptItem). not (is_sibling_number fs f p.number) ≡ true) (λ p. ap not (none p.number)) (parts_of m)))
-    ∙ kept_whole m
-  where
-    none : (n : ℕ) → is_sibling_number fs f n ≡ false
-    none n = list_any_none (λ g. is_sibling f g && nat_eq g.number n) fs (each_of_all (λ g. (is_sibling f g && nat_eq g.number n) ≡ false) (λ g. rw (no_sibling f g alone)) fs)
+    search (rules, filter_all, each_of_all, kept_whole, list_any_none, no_sibling)
 
 -- The message of the definitions.
 
@@ -183,8 +152,4 @@ unknown-message_of (nests n k l child later) = unknown-message_of later
 
 pub filter-part_item : (test : ℕ → Bool) (ps : List (Part KeptItem)) → filter (λ (p : Part Item). test p.number) (map part_item ps) ≡ map part_item (filter (λ (p : Part KeptItem). test p.number) ps)
 filter-part_item test [] = refl
-filter-part_item test (p ∷ ps) =
-    elim (test p.number) as (λ b. test p.number ≡ b → cond b (part_item p ∷ filter (λ (q : Part Item). test q.number) (map part_item ps)) (filter (λ (q : Part Item). test q.number) (map part_item ps)) ≡ map part_item (cond b (p ∷ filter (λ (q : Part KeptItem). test q.number) ps) (filter (λ (q : Part KeptItem). test q.number) ps))) [
-      | true ↦ λ e. ap (λ qs. part_item p ∷ qs) (filter-part_item test ps)
-      | false ↦ λ e. filter-part_item test ps
-    ] refl
+filter-part_item test (p ∷ ps) = search (rules, filter-part_item test ps)

@@ -1,5 +1,5 @@
 -- The parts of a message that borrows, and of its copy.
-use Rattle.std.proofs.Common.{Vec, Global, ◌≡◌, ℕ, zero, suc, ◌+◌, ◌<◌, List, [], ◌∷◌, ◌++◌, length, map, get_or, take, Bool, true, false, Some, None, refl, ap, ap₂, sym, subst, ◌∙◌, arith}
+use Rattle.std.proofs.Common.{Vec, Global, ◌≡◌, ℕ, zero, suc, ◌+◌, ◌<◌, List, [], ◌∷◌, ◌++◌, length, map, get_or, take, Bool, true, false, Some, None, refl, ap, ap₂, sym, subst, ◌∙◌, arith, rules}
 use Rattle.std.specs.Prelude.{⊤}
 use Rattle.std.specs.List.{AllByRecursion}
 use Rattle.std.proofs.lemmas.List.{map-append, take_more}
@@ -10,12 +10,10 @@ use Rattle.pg_wire.specs.Records.{IsRecord, WireRecord}
 use Rattle.pg_dyn.specs.declared.message.Content.{Content}
 use Rattle.pg_dyn.specs.declared.message.Content.TheVariants as held
 use Rattle.pg_dyn.specs.declared.message.Value.{Value}
-use Rattle.pg_dyn.specs.declared.message.Value.TheVariants as owned
 use Rattle.pg_dyn.specs.declared.message_ref.ContentRef.{ContentRef}
 use Rattle.pg_dyn.specs.declared.message_ref.ContentRef.TheVariants as contents
 use Rattle.pg_dyn.specs.declared.message_ref.EntryRef.{EntryRef}
 use Rattle.pg_dyn.specs.declared.message_ref.ValueRef.{ValueRef}
-use Rattle.pg_dyn.specs.declared.message_ref.ValueRef.TheVariants as values
 use Rattle.pg_dyn.specs.declared.number_list.NumberList.{NumberList}
 use Rattle.pg_dyn.specs.word.NumberLists.{numbers_in}
 use Rattle.pg_dyn.specs.message_ref.Borrowed.{all_seen, content_seen, entry_part, fields_onto, item_part}
@@ -54,22 +52,7 @@ shown_text (Msg listed child) = false
 
 -- the key of a copy is one where the key that is lent is
 pub key_copied : (r : ValueRef) (v : Value) → item_seen false v ≡ borrowed.item_seen false r → borrowed.IsMapKey r → IsMapKey v
-key_copied r (owned.Int n) same h = tt
-key_copied r (owned.F32 n) same h = tt
-key_copied r (owned.F64 n) same h = tt
-key_copied r (owned.Text n) same h = tt
-key_copied (values.Int m) (owned.Bytes n) same h = cc
-key_copied (values.F32 m) (owned.Bytes n) same h = cc
-key_copied (values.F64 m) (owned.Bytes n) same h = cc
-key_copied (values.Text m) (owned.Bytes n) same h = let no : false ≡ true = ap shown_text same in absurd (cc)
-key_copied (values.Bytes m) (owned.Bytes n) same h = absurd h
-key_copied (values.Msg m) (owned.Bytes n) same h = absurd h
-key_copied (values.Int n) (owned.Msg child) same h = cc
-key_copied (values.F32 n) (owned.Msg child) same h = cc
-key_copied (values.F64 n) (owned.Msg child) same h = cc
-key_copied (values.Text n) (owned.Msg child) same h = cc
-key_copied (values.Bytes n) (owned.Msg child) same h = cc
-key_copied (values.Msg n) (owned.Msg child) same h = absurd h
+key_copied r v same h = grind arith
 
 -- the leaf that an item shows
 abbrev shown_leaf : KeptItem → Leaf
@@ -111,18 +94,10 @@ list_parts rs vs same n =
     ∙ map_map (λ (item : KeptItem). record { number = n; key = None; item = item }) (borrowed.item_seen true) rs
 
 pub list_copied : (rs : Vec ValueRef Global) (vs : Vec Value Global) → map (item_seen true) vs.items ≡ map (borrowed.item_seen true) rs.items → IsContentCopy (contents.Many rs) (held.Many vs)
-list_copied rs vs same = record {
-  parts = list_parts rs.items vs.items same;
-  filled = no_nil (item_seen true) (borrowed.item_seen true) vs.items rs.items same;
-  keys = λ h. tt;
-}
+list_copied rs vs same = search (rules, list_parts, no_nil)
 
 pub numbers_copied : (ns : NumberList) (vs : Vec Value Global) → map (item_seen true) vs.items ≡ map (borrowed.item_seen true) (numbers_in ns) → IsContentCopy (contents.Numbers ns) (held.Many vs)
-numbers_copied ns vs same = record {
-  parts = list_parts (numbers_in ns) vs.items same;
-  filled = no_nil (item_seen true) (borrowed.item_seen true) vs.items (numbers_in ns) same;
-  keys = λ h. tt;
-}
+numbers_copied ns vs same = search (rules, list_parts, no_nil)
 
 pub map_copied : (rs : Vec EntryRef Global) (es : Vec (Value × Value) Global) → AreEntryCopies rs.items es.items → IsContentCopy (contents.Map rs) (held.Map es)
 map_copied rs es same = record {

@@ -1,5 +1,5 @@
 -- A decoder goes over the records of bytes.
-use Rattle.std.proofs.Common.{◌≡◌, ℕ, ◌+◌, ◌≤◌, List, [], ◌∷◌, length, Result, Ok, Err, refl, ap, ap₂, sym, ◌∙◌, arith, drop, drop_at}
+use Rattle.std.proofs.Common.{◌≡◌, ℕ, ◌+◌, ◌≤◌, List, [], ◌∷◌, length, Result, Ok, Err, refl, ap, ap₂, sym, ◌∙◌, arith, drop, drop_at, rules}
 use Rattle.pg_wire.specs.declared.error.WireError.{WireError}
 use Rattle.pg_wire.specs.Reading.{Fault, Front, ◌>>=◌}
 use Rattle.pg_wire.specs.Errors.{error_at, fault_of, place_of, placed}
@@ -42,10 +42,7 @@ found_of : (rest : List ℕ) (read : Front WireRecord) → record_at rest ≡ re
 found_of rest read e = ap (λ y. placed 0 (y >>= λ x. Ok x.0)) e
 
 error_there : (f : Fault) (at : ℕ) → error_at (fault_of (error_at f 0)) (place_of (error_at f 0) + at) ≡ error_at f at
-error_there f at =
-    let k = fault_of-error_at f 0 in
-    let here : place_of (error_at f 0) + at ≡ at = omega (arith, k.1) in
-    ap₂ error_at k.0 here
+error_there f at = search (rules, arith, fault_of-error_at)
 
 pub ok_step : (at : ℕ) (rest : List ℕ) (r : WireRecord) (left : List (Result WireRecord WireError)) → results at rest ≡ Ok r ∷ left → OkStep at rest r left
 ok_step at [] r left h = absurd (cons_not_nil (Ok r) left (sym (results-end at [] refl) ∙ h))

@@ -1,9 +1,7 @@
 -- Depth beyond the number of bytes changes nothing, since the bytes of a child are fewer than those around it.
-use Rattle.std.proofs.Common.{fold, ◌≡◌, ℕ, zero, suc, ◌+◌, ◌<◌, ◌≤◌, List, [], ◌∷◌, ◌++◌, map, filter, flat_map, length, Bool, true, false, not, ◌&&◌, ◌||◌, cond, Option, Some, None, is_some, option_map, option_and_then, Result, Ok, Err, refl, ap, ap₂, sym, ◌∙◌, subst, arith, length-append}
+use Rattle.std.proofs.Common.{fold, ◌≡◌, ℕ, zero, suc, ◌+◌, ◌<◌, ◌≤◌, List, [], ◌∷◌, map, filter, flat_map, length, Bool, true, false, not, ◌&&◌, ◌||◌, cond, Option, Some, None, is_some, option_map, option_and_then, Result, Ok, Err, refl, ap, ap₂, sym, subst, arith, length-append, rules}
 use Rattle.std.specs.Bool.{⊤}
-use Rattle.std.specs.List.{AllByRecursion, list_any, list_all}
-use Rattle.std.specs.declared.cmp.Ordering.{Ordering}
-use Rattle.std.specs.declared.cmp.Ordering.TheVariants.{Less, Equal, Greater}
+use Rattle.std.specs.List.{AllByRecursion, list_all}
 use Rattle.pg_schema.specs.declared.parts.field.TypeId.{TypeId}
 use Rattle.pg_schema.specs.declared.parts.field.Scalar.{Scalar}
 use Rattle.pg_schema.specs.declared.parts.field.Element.{Element}
@@ -17,9 +15,9 @@ use Rattle.pg_wire.specs.Records.{WireRecord, IsRecord, records_of}
 use Rattle.pg_wire.proofs.Varints.{length-IsVarint}
 use Rattle.pg_wire.proofs.RecordLaws.{Spells_from_records_of}
 use Rattle.pg_dyn.specs.reading.Optional.{all_some, after_last_of, first_or, joined}
-use Rattle.pg_dyn.specs.message.Message.{Leaf, Bytes, Part, Msg, message_from, key_cmp}
+use Rattle.pg_dyn.specs.message.Message.{Leaf, Bytes, Part}
 use Rattle.pg_dyn.specs.word.Coding.{form, zero_leaf}
-use Rattle.pg_dyn.specs.reading.Content.{same_wire, is_sibling, is_unknown, takes, counted, option_from, packed_leaves, leaves_in, leaf_bytes, last_item, plain_content, key_field, value_field, entry_part, entry_in, put, by_key, content}
+use Rattle.pg_dyn.specs.reading.Content.{same_wire, takes, counted, option_from, packed_leaves, leaves_in, leaf_bytes, last_item, plain_content, key_field, value_field, entry_part, entry_in, put, by_key, content}
 use Rattle.pg_dyn.specs.reading.Decoding.{Reader, is_child, is_plain_readable, all_plain_readable, is_readable, all_readable, read_item, read_part, field_parts, read_records, dec_within, dec}
 use Rattle.pg_dyn.proofs.Lists.{each-map, each_of_all, each_weaker, map_same, flat_map-append', option_map_some, and_then_some}
 use Rattle.pg_dyn.proofs.lemmas.message.Plain.{last_item_none}
@@ -31,8 +29,7 @@ bodies rs = flat_map (λ (r : WireRecord). r.body) rs
 
 -- a record's body is shorter than the record
 pub body_shorter : (r : WireRecord) → IsRecord r → length r.body < length r.bytes
-body_shorter r h =
-    rw (h.bytes_are) (omega (arith, length-IsVarint h.tag h.tag_is_varint, length-append (h.tag ++ h.before) r.body, length-append h.tag h.before))
+body_shorter r h = search (rules, arith, length-IsVarint, length-append)
 
 -- each body is shorter than all records, and all bodies together are, where there is a record
 bodies_shorter : (rs : List WireRecord) → AllByRecursion IsRecord rs → length (bodies rs) + length rs ≤ length (flat_map (λ (r : WireRecord). r.bytes) rs)
@@ -42,9 +39,7 @@ bodies_shorter (r ∷ rs) h =
 
 each_body_within : (rs : List WireRecord) → AllByRecursion (λ r. length r.body ≤ length (bodies rs)) rs
 each_body_within [] = tt
-each_body_within (r ∷ rs) =
-    let total = length-append r.body (bodies rs) in
-    (omega arith, each_weaker (λ s. length s.body ≤ length (bodies rs)) (λ s. length s.body ≤ length (r.body ++ bodies rs)) (λ s h. omega arith) rs (each_body_within rs))
+each_body_within (r ∷ rs) = search (rules, arith, length-append, each_weaker, each_body_within rs)
 
 -- the bytes of all bodies, and one more for each record
 abbrev pub weight : List WireRecord → ℕ
@@ -53,24 +48,15 @@ weight rs = length (bodies rs) + length rs
 -- fewer records have less weight
 pub weight-filter : (test : WireRecord → Bool) (rs : List WireRecord) → weight (filter test rs) ≤ weight rs
 weight-filter test [] = omega arith
-weight-filter test (r ∷ rs) =
-    let rest = weight-filter test rs in
-    elim (test r) as (λ b. weight (cond b (r ∷ filter test rs) (filter test rs)) ≤ weight (r ∷ rs)) [
-      | true ↦ omega (arith, length-append r.body (bodies rs), length-append r.body (bodies (filter test rs)))
-      | false ↦ omega (arith, length-append r.body (bodies rs))
-    ]
+weight-filter test (r ∷ rs) = search (rules, arith, weight-filter test rs, length-append)
 
 weight-after_last_of : (test : WireRecord → Bool) (rs : List WireRecord) → weight (after_last_of test rs) ≤ weight rs
 weight-after_last_of test [] = omega arith
 weight-after_last_of test (r ∷ rs) =
-    let rest = weight-after_last_of test rs in
-    elim (list_any test (r ∷ rs)) as (λ b. weight (cond b (after_last_of test rs) (r ∷ rs)) ≤ weight (r ∷ rs))
-    [ true ↦ omega (arith, length-append r.body (bodies rs)) | false ↦ omega arith ]
+    search (rules, arith, weight-after_last_of test rs, length-append)
 
 pub weight-counted : (fs : List FieldShape) (f : FieldShape) (rs : List WireRecord) → weight (counted fs f rs) ≤ weight rs
-weight-counted fs f rs =
-    let test : WireRecord → Bool = λ r. list_any (λ g. is_sibling f g && takes g r) fs in
-    omega (arith, weight-filter (takes f) (after_last_of test rs), weight-after_last_of test rs)
+weight-counted fs f rs = search (rules, arith, weight-filter, weight-after_last_of)
 
 -- The bytes of the items of a field of messages are those of the records' bodies.
 
@@ -103,9 +89,7 @@ module _ (number : ℕ) (p : Presence) (t : TypeId) (oneof : Option ℕ) where
 
   each_leaf : (leaves : List Leaf) → AllByRecursion (λ l. length (leaf_bytes l) ≤ length (leaves_bytes leaves)) leaves
   each_leaf [] = tt
-  each_leaf (l ∷ ls) =
-      let total = length-append (leaf_bytes l) (leaves_bytes ls) in
-      (omega arith, each_weaker (λ k. length (leaf_bytes k) ≤ length (leaves_bytes ls)) (λ k. length (leaf_bytes k) ≤ length (leaf_bytes l ++ leaves_bytes ls)) (λ k h. omega arith) ls (each_leaf ls))
+  each_leaf (l ∷ ls) = search (rules, arith, length-append, each_weaker, each_leaf ls)
 
   last_leaves : (leaves : List Leaf) → AllByRecursion (λ l. length (leaf_bytes l) ≤ length (leaves_bytes leaves)) (last_item p (elements.Message t) leaves)
   last_leaves [] = tt
@@ -137,16 +121,10 @@ plain_below number p (elements.Enum e) oneof rs leaves h = each_of_all (Below (s
 
 -- no records give no items
 plain_none : (number : ℕ) (p : Presence) (e : Element) (oneof : Option ℕ) (leaves : List Leaf) → plain_content (field_of number p e oneof) [] ≡ Some leaves → leaves ≡ []
-plain_none number p e oneof leaves h =
-    let empty : cond (is_repeated p) [] (last_item p e []) ≡ [] =
-    elim (is_repeated p) as (λ b. cond b [] (last_item p e []) ≡ []) [ true ↦ refl | false ↦ last_item_none p e ] in
-    let made : cond (is_repeated p) [] (last_item p e []) ≡ leaves = cc in
-    sym made ∙ empty
+plain_none number p e oneof leaves h = search (rules, last_item_none)
 
 below_more : (m n : ℕ) (e : Element) (leaf : Leaf) → m ≤ n → Below m e leaf → Below n e leaf
-below_more m n (elements.Message t) leaf k h = omega arith
-below_more m n (elements.Scalar s) leaf k h = tt
-below_more m n (elements.Enum e) leaf k h = tt
+below_more m n e leaf k h = grind arith
 
 plain_content_below : (number : ℕ) (p : Presence) (e : Element) (oneof : Option ℕ) (n : ℕ) (rs : List WireRecord) (leaves : List Leaf) → weight rs ≤ n → plain_content (field_of number p e oneof) rs ≡ Some leaves → AllByRecursion (Below n e) leaves
 plain_content_below number p e oneof n [] leaves w h = subst (AllByRecursion (Below n e)) (sym (plain_none number p e oneof leaves h)) tt
@@ -155,9 +133,7 @@ plain_content_below number p e oneof n (r ∷ rs) leaves w h =
 
 -- the zero of a missing part has no bytes
 zero_below : (n : ℕ) (e : Element) → 1 ≤ n → Below n e (zero_leaf (form e))
-zero_below n (elements.Message t) h = omega arith
-zero_below n (elements.Scalar s) h = tt
-zero_below n (elements.Enum e) h = tt
+zero_below n e h = grind arith
 
 first_below : (n : ℕ) (e : Element) (d : Leaf) (leaves : List Leaf) → Below n e d → AllByRecursion (Below n e) leaves → Below n e (first_or d leaves)
 first_below n e d [] h each = h
@@ -188,12 +164,7 @@ entry_below key e n r entry fits h =
 -- the entries that stay are among those that are read
 each-put : (P : Leaf × Leaf → Type 0) (entry : Leaf × Leaf) (es : List (Leaf × Leaf)) → P entry → AllByRecursion P es → AllByRecursion P (put entry es)
 each-put P entry [] h each = (h, tt)
-each-put P entry (e ∷ es) h each = at (key_cmp entry.0 e.0) refl (each-put P entry es h each.1)
-  where
-    at : (o : Ordering) → key_cmp entry.0 e.0 ≡ o → AllByRecursion P (put entry es) → AllByRecursion P (put entry (e ∷ es))
-    at Less is placed = rw is (h, each)
-    at Equal is placed = rw is (h, each.1)
-    at Greater is placed = rw is (each.0, placed)
+each-put P entry (e ∷ es) h each = search (rules, each-put P entry es h each.1)
 
 each-put_all : (P : Leaf × Leaf → Type 0) (placed es : List (Leaf × Leaf)) → AllByRecursion P placed → AllByRecursion P es → AllByRecursion P (fold (λ qs entry. put entry qs) placed es)
 each-put_all P placed [] before h = before
@@ -243,9 +214,7 @@ list_all_same p q (x ∷ xs) h = ap₂ (λ a b. a && b) h.0 (list_all_same p q x
 
 module _ (n : ℕ) (child other : Reader) (agree : AgreeBelow n child other) where
   read_item_same : (e : Element) (leaf : Leaf) → Below n e leaf → read_item child e leaf ≡ read_item other e leaf
-  read_item_same (elements.Message t) leaf h = ap (option_map Msg) (agree t (leaf_bytes leaf) h)
-  read_item_same (elements.Scalar s) leaf h = refl
-  read_item_same (elements.Enum e) leaf h = refl
+  read_item_same e leaf h = grind arith
 
   field_parts_same : (fs : List FieldShape) (rs : List WireRecord) (f : FieldShape) → weight rs ≤ n → field_parts child fs rs f ≡ field_parts other fs rs f
   field_parts_same fs rs f w = of (content f (counted fs f rs)) refl
@@ -263,9 +232,7 @@ module _ (n : ℕ) (child other : Reader) (agree : AgreeBelow n child other) whe
           (content_below f.number f.presence f.element f.oneof n (counted fs f rs) ps within is)))
 
   is_child_same : (e : Element) (bytes : List ℕ) → length bytes < n → is_child child e bytes ≡ is_child other e bytes
-  is_child_same (elements.Message t) bytes h = ap is_some (agree t bytes h)
-  is_child_same (elements.Scalar s) bytes h = refl
-  is_child_same (elements.Enum e) bytes h = refl
+  is_child_same e bytes h = grind arith
 
   plain_readable_same : (f : FieldShape) (r : WireRecord) → length r.body < n → is_plain_readable child f r ≡ is_plain_readable other f r
   plain_readable_same f r h = ap (λ b. is_some (leaves_in f r) && b) (is_child_same f.element r.body h)
@@ -299,9 +266,7 @@ module _ (n : ℕ) (child other : Reader) (agree : AgreeBelow n child other) whe
   -- Records that weigh no more than that are read the same.
   pub read_records_same : (fs : List FieldShape) (rs : List WireRecord) → weight rs ≤ n → read_records child fs rs ≡ read_records other fs rs
   read_records_same fs rs w =
-      ap₂ (λ b pieces. cond b (option_map (λ ps. message_from (joined ps) (filter (is_unknown fs) rs)) (all_some pieces)) None)
-      (all_readable_same fs rs (body_below_weight n rs w))
-      (map_same (field_parts child fs rs) (field_parts other fs rs) fs (each_of_all (λ f. field_parts child fs rs f ≡ field_parts other fs rs f) (λ f. field_parts_same fs rs f w) fs))
+      search (rules, all_readable_same, body_below_weight, map_same, each_of_all, field_parts_same)
 
 module _ (shape : Shape) where
   -- any two depths beyond the number of bytes

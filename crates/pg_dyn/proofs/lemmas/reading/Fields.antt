@@ -1,9 +1,8 @@
 -- The content of a field is read again from the records that are written of it.
-use Rattle.std.proofs.Common.{◌≡◌, ℕ, ◌^◌, ◌<◌, ◌≤◌, List, [], ◌∷◌, ◌++◌, map, flat_map, fold, length, true, false, Option, Some, None, unwrap_or, refl, ap, sym, subst, ◌∙◌, append-nil, append_assoc}
+use Rattle.std.proofs.Common.{◌≡◌, ℕ, ◌^◌, ◌<◌, ◌≤◌, List, [], ◌∷◌, ◌++◌, map, flat_map, fold, length, true, false, Option, Some, None, unwrap_or, refl, ap, sym, subst, ◌∙◌, append-nil, append_assoc, rules, arith}
 use Rattle.std.specs.Bool.{⊤}
 use Rattle.std.specs.List.{AllByRecursion}
 use Rattle.std.specs.declared.cmp.Ordering.TheVariants.{Less, Greater}
-use Rattle.std.specs.Ordering.{ordering_reverse}
 use Rattle.std.proofs.lemmas.Cmp.{int_cmp_total, nat_list_cmp_total}
 use Rattle.std.proofs.lemmas.Bool.{or_left, or_right}
 use Rattle.pg_schema.specs.declared.parts.field.Scalar.{Scalar}
@@ -17,7 +16,7 @@ use Rattle.pg_wire.specs.declared.record.WireType.TheVariants.{Len}
 use Rattle.pg_wire.specs.Records.{WireRecord, IsRecord, written}
 use Rattle.pg_wire.proofs.RecordLaws.{IsRecord-written}
 use Rattle.pg_dyn.specs.reading.Optional.{all_some}
-use Rattle.pg_dyn.specs.message.Message.{Leaf, Int, Bytes, Part, key_cmp}
+use Rattle.pg_dyn.specs.message.Message.{Leaf, Part, key_cmp}
 use Rattle.pg_dyn.specs.word.Coding.{form, form_wire, body, zero_leaf}
 use Rattle.pg_dyn.specs.reading.Content.{same_wire, own_wire, is_accepted, leaves_in, last_item, entry_in, put, by_key, content}
 use Rattle.pg_dyn.specs.encoding.Writing.{item_record, entry_bytes, key_of, field_records}
@@ -33,9 +32,7 @@ abbrev pub field_of : ℕ → Presence → Element → Option ℕ → FieldShape
 field_of number p e oneof = record { number = number; presence = p; element = e; oneof = oneof }
 
 pub above_from_less : (k l : Leaf) → key_cmp k l ≡ Less → key_cmp l k ≡ Greater
-above_from_less (Int m) (Int n) h = int_cmp_total.antisymm n m ∙ ap ordering_reverse h
-above_from_less (Bytes a) (Bytes b) h = nat_list_cmp_total.antisymm b a ∙ ap ordering_reverse h
-above_from_less k l h = absurd (cc)
+above_from_less k l h = grind (arith, int_cmp_total, nat_list_cmp_total)
 
 -- each later entry has a greater key
 abbrev pub EntriesRise : List (Leaf × Leaf) → Type 0
@@ -69,17 +66,14 @@ module _ (number : ℕ) (e : Element) (key_body item_body : Leaf → List ℕ) w
 
   -- the parts from their items
   plain_back : (p : Presence) → ((key : Option Leaf) → KeyFits p key → key ≡ None) → (qs : List (Part Leaf)) → AllByRecursion (FitsFrom key_body item_body number p e) qs → map plain_part (map (λ (q : Part Leaf). q.item) qs) ≡ qs
-  plain_back p no_key qs h =
-      map_back (λ (q : Part Leaf). q.item) plain_part qs
-      (each_weaker (FitsFrom key_body item_body number p e) (λ q. plain_part q.item ≡ q) (λ q f. λ i. record { number = sym f.number_is i; key = sym (no_key q.key f.key_fits) i; item = q.item }) qs h)
+  plain_back p no_key qs h = search (rules, map_back, each_weaker)
 
   each_reads : (p : Presence) (qs : List (Part Leaf)) → AllByRecursion (FitsFrom key_body item_body number p e) qs → AllByRecursion (λ q. IsReadAs (form e) (item_body q.item) q.item) qs
   each_reads p qs h = each_weaker (FitsFrom key_body item_body number p e) (λ q. IsReadAs (form e) (item_body q.item) q.item) (λ q f. f.reads) qs h
 
   singular_again : (p : Presence) → ((key : Option Leaf) → KeyFits p key → key ≡ None) → ((k l : Option Leaf) → MayFollow p k l → ⊥) → (qs : List (Part Leaf)) → AllByRecursion (FitsFrom key_body item_body number p e) qs → Ordered p qs → map plain_part (last_item p e (map (λ (q : Part Leaf). q.item) qs)) ≡ qs
   singular_again p no_key alone [] h order = ap (map plain_part) (last_item_none p e)
-  singular_again p no_key alone (q ∷ []) h order =
-      ap (map plain_part) (last_item_one p e q.item h.0.may_be_zero h.0.nested) ∙ plain_back p no_key (q ∷ []) h
+  singular_again p no_key alone (q ∷ []) h order = search (rules, last_item_one, plain_back)
   singular_again p no_key alone (q ∷ r ∷ qs) h order = absurd (alone q.key r.key order.0.0)
 
   rows_again : (p : Presence) (oneof : Option ℕ) (qs : List (Part Leaf)) → AllByRecursion (FitsFrom key_body item_body number p e) qs → all_some (map (leaves_in (field_of number p e oneof)) (map (λ (q : Part Leaf). record_with number e (item_body q.item)) qs)) ≡ Some (map (λ (q : Part Leaf). q.item ∷ []) qs)
@@ -118,18 +112,10 @@ module _ (number : ℕ) (e : Element) (key_body item_body : Leaf → List ℕ) w
   entry_each key (q ∷ ps) g s = (entry_one key q g.0 s.0, entry_each key ps g.1 s.1)
 
   entries_again : (key : Scalar) (qs : List (Part Leaf)) → AllByRecursion (FitsFrom key_body item_body number (presences.Map key) e) qs → ShortBodies (map (entry_record key) qs) → all_some (map (entry_in key e) (map (entry_record key) qs)) ≡ Some (map (λ (q : Part Leaf). (key_of key q, q.item)) qs)
-  entries_again key qs h short =
-      all_some-map_map (entry_in key e) (entry_record key) (λ (q : Part Leaf). (key_of key q, q.item)) qs (entry_each key qs h short)
+  entries_again key qs h short = search (rules, all_some-map_map, entry_each)
 
   entries_back : (key : Scalar) (qs : List (Part Leaf)) → AllByRecursion (FitsFrom key_body item_body number (presences.Map key) e) qs → map entry_part_of (map (λ (q : Part Leaf). (key_of key q, q.item)) qs) ≡ qs
-  entries_back key qs h =
-      map_back (λ (q : Part Leaf). (key_of key q, q.item)) entry_part_of qs
-      (each_weaker (FitsFrom key_body item_body number (presences.Map key) e) (λ q. entry_part_of (key_of key q, q.item) ≡ q)
-      (λ q f. λ i. record { number = sym f.number_is i; key = key_back q.key f.key_fits i; item = q.item }) qs h)
-    where
-      key_back : (k : Option Leaf) → KeyFits (presences.Map key) k → Some (unwrap_or k (zero_leaf (form (elements.Scalar key)))) ≡ k
-      key_back None a = absurd a
-      key_back (Some k) a = refl
+  entries_back key qs h = search (rules, map_back, each_weaker)
 
   pub packed_leaves_in : (oneof : Option ℕ) (qs : List (Part Leaf)) → is_packable e ≡ true → AllByRecursion (λ q. IsReadAs (form e) (item_body q.item) q.item) qs → leaves_in (field_of number (presences.Repeated true) e oneof) (written number Len (flat_map (λ (q : Part Leaf). item_body q.item) qs)) ≡ Some (map (λ (q : Part Leaf). q.item) qs)
   unfolding written
@@ -173,12 +159,7 @@ own_key_read presences.Explicit k h = tt
 own_key_read (presences.Repeated packed) k h = tt
 
 own_records_with : (number : ℕ) (p : Presence) (e : Element) (oneof : Option ℕ) (qs : List (Part Leaf)) → records_with (own_key_body p) (body (form e)) (field_of number p e oneof) qs ≡ field_records (field_of number p e oneof) qs
-own_records_with number presences.Implicit e oneof qs = refl
-own_records_with number presences.Explicit e oneof qs = refl
-own_records_with number (presences.Repeated false) e oneof qs = refl
-own_records_with number (presences.Repeated true) e oneof [] = refl
-own_records_with number (presences.Repeated true) e oneof (q ∷ qs) = refl
-own_records_with number (presences.Map key) e oneof qs = refl
+own_records_with number p e oneof qs = grind arith
 
 pub content_again : (f : FieldShape) → PresenceFits f.presence f.element f.oneof → (qs : List (Part Leaf)) → AllByRecursion (FitsField f.number f.presence f.element) qs → Ordered f.presence qs → ShortBodies (field_records f qs) → content f (field_records f qs) ≡ Some qs
 content_again f fits qs h order short =

@@ -1,5 +1,5 @@
 -- Packed lists, element by element, and their words.
-use Rattle.std.proofs.Common.{◌≡◌, ℕ, zero, suc, ◌+◌, ◌-◌, ◌<◌, ◌≤◌, List, [], ◌∷◌, ◌++◌, length, map, take, drop, true, true≢false, Some, is_some, option_and_then, Result, Ok, Err, IfOk, refl, ap, ap₂, sym, subst, ◌∙◌, arith, lt-ltb, le-ltb, length-append, length-drop, drop-drop, drop_at, append_assoc}
+use Rattle.std.proofs.Common.{◌≡◌, ℕ, zero, suc, ◌+◌, ◌-◌, ◌<◌, ◌≤◌, List, [], ◌∷◌, ◌++◌, length, map, take, drop, true, true≢false, Some, is_some, option_and_then, Result, Ok, Err, IfOk, refl, ap, ap₂, sym, subst, ◌∙◌, arith, lt-ltb, le-ltb, length-append, length-drop, drop-drop, drop_at, append_assoc, rules}
 use Rattle.std.specs.List.{AllByRecursion}
 use Rattle.std.proofs.lemmas.List.{append-nil, map-append, drop_all, take_at, take_all}
 use Rattle.pg_schema.specs.declared.parts.field.Element.TheVariants as elements
@@ -116,14 +116,7 @@ pub record RowSoFar (wire : WireType) (body : List ℕ) (start : ℕ) (old now :
 
 module _ (wire : WireType) (body : List ℕ) (old : List ℕ) where
   pub row_begin : RowSoFar wire body 0 old old
-  row_begin = record {
-    inside = omega arith;
-    done = [];
-    now_is = sym (append-nil old);
-    words = tt;
-    row_ok = λ others h. h;
-    row_err = λ f h. h;
-  }
+  row_begin = search (rules, arith, append-nil)
 
   module _ (start : ℕ) (now : List ℕ) (a : RowSoFar wire body start old now) where
     pub row_done : length body ≤ start → WordsRead wire body old now
@@ -184,11 +177,7 @@ module _ (s : Scalar) (packable : is_packable (elements.Scalar s) ≡ true) wher
 
 -- a packed list that can be read is a row
 pub row_there : (s : Scalar) (body : List ℕ) → is_some (packed_leaves (scalar_form s) body) ≡ true → IsRow (form_wire (scalar_form s)) body
-row_there s body some = of (row (element_at (form_wire (scalar_form s))) body) refl
-  where
-    of : (r : Result (List (List ℕ)) Fault) → row (element_at (form_wire (scalar_form s))) body ≡ r → IsRow (form_wire (scalar_form s)) body
-    of (Ok bodies) is = (bodies, is)
-    of (Err f) is = absurd (true≢false (sym some ∙ ap (λ r. is_some (option_and_then (λ bodies. all_some (map (leaf_in (scalar_form s)) bodies)) (option_from r))) is))
+row_there s body some = search (rules, true≢false)
 
 -- a length that is there, or isn't
 pub if_there : (wire : WireType) (len : ℕ) (bytes : List ℕ) → 1 ≤ len → element_at wire bytes ≡ exactly len bytes → len ≤ length bytes → IsOne wire bytes len
@@ -200,10 +189,7 @@ if_short wire len bytes is h = (Truncated, is ∙ exact_err len bytes h, refl)
 
 -- an error of what is first, that many bytes further
 pub error_after : (f : Fault) (e : WireError) (at : ℕ) → e ≡ error_at f 0 → error_at (fault_of e) (place_of e + at) ≡ error_at f at
-error_after f e at is =
-    let k = fault_of-error_at f 0 in
-    let there : place_of e + at ≡ at = omega (arith, ap place_of is, k.1) in
-    ap₂ error_at (ap fault_of is ∙ k.0) there
+error_after f e at is = search (rules, arith, fault_of-error_at)
 
 pub to_end : (body : List ℕ) (start : ℕ) → take (length body - start) (drop start body) ≡ drop start body
 to_end body start = take_all (length body - start) (drop start body) (omega (arith, length-drop start body))

@@ -1,5 +1,5 @@
 -- What is in a list.
-use Rattle.std.proofs.Common.{◌≡◌, ℕ, zero, suc, ◌<◌, List, [], ◌∷◌, length, filter, get_or, Bool, true, false, cond, inl, inr, refl, ap, sym, subst, ◌∙◌, arith}
+use Rattle.std.proofs.Common.{◌≡◌, ℕ, zero, suc, ◌<◌, List, [], ◌∷◌, length, filter, get_or, Bool, true, inl, inr, refl, sym, subst, arith, rules}
 use Rattle.std.specs.List.{AllByRecursion, Contains}
 use Rattle.std.specs.List.Sorted.{IsPermutation}
 use Rattle.std.proofs.lemmas.List.Sorted.{Contains-permutation, IsPermutation-sym}
@@ -47,16 +47,8 @@ module _ {A : Type 0} where
 
   pub passes_once : (test : A → Bool) (x : A) (ys : List A) → StandsIn x ys → test x ≡ true → 0 < length (filter test ys)
   passes_once test x [] h k = absurd h
-  passes_once test x (y ∷ ys) (inl same) k = of (test y) (sym (ap test same) ∙ k)
-    where
-      of : (b : Bool) → b ≡ true → 0 < length (cond b (y ∷ filter test ys) (filter test ys))
-      of true is = omega arith
-      of false is = absurd (cc)
-  passes_once test x (y ∷ ys) (inr h) k = of (test y) (passes_once test x ys h k)
-    where
-      of : (b : Bool) → 0 < length (filter test ys) → 0 < length (cond b (y ∷ filter test ys) (filter test ys))
-      of true rest = omega arith
-      of false rest = rest
+  passes_once test x (y ∷ ys) (inl same) k = search (rules, arith)
+  passes_once test x (y ∷ ys) (inr h) k = search (rules, arith, passes_once test x ys h k)
 
   pub stands_at : (xs : List A) (i : ℕ) (x : A) → i < length xs → x ≡ get_or xs i x → StandsIn x xs
   stands_at xs i x inside is = from_contains x xs i inside (sym is)

@@ -1,5 +1,5 @@
 -- The fields of a type of a schema, and which of them takes a record.
-use Rattle.std.proofs.Common.{◌≡◌, ◌≢◌, ℕ, zero, suc, ◌<◌, List, [], ◌∷◌, length, get_or, nat_eq, true, false, cond, not, ◌&&◌, Option, Some, None, ap, sym, ◌∙◌, arith, ⊎_elim, eq-eqb, ne_eqb}
+use Rattle.std.proofs.Common.{◌≡◌, ◌≢◌, ℕ, zero, suc, ◌<◌, List, [], ◌∷◌, length, get_or, nat_eq, true, false, not, ◌&&◌, Some, None, ap, sym, ◌∙◌, arith, ⊎_elim, eq-eqb, ne_eqb, rules}
 use Rattle.std.specs.List.{AllByRecursion}
 use Rattle.std.proofs.lemmas.Bool.{cases_eq}
 use Rattle.std.proofs.Math.Bool.{and-false}
@@ -40,13 +40,7 @@ takes_apart f r apart = ap (λ b. b && is_accepted f r) (ne_eqb r.number f.numbe
 
 none_takes : (fs : List FieldShape) (r : WireRecord) → field_at fs r.number ≡ None → AllByRecursion (λ f. takes f r ≡ false) fs
 none_takes [] r h = tt
-none_takes (f ∷ fs) r h =
-    ⊎_elim (λ same. absurd (some_not_none f (ap (λ b. cond b (Some f) (field_at fs r.number)) (sym (eq-eqb f.number r.number same)) ∙ h)))
-    (λ apart. (takes_apart f r apart, none_takes fs r (ap (λ b. cond b (Some f) (field_at fs r.number)) (sym (ne_eqb f.number r.number apart)) ∙ h)))
-    (cases_eq f.number r.number)
-  where
-    some_not_none : (g : FieldShape) → ◌≡◌ {A = Option FieldShape} (Some g) None → ⊥
-    some_not_none g e = cc
+none_takes (f ∷ fs) r h = search (rules, eq-eqb, takes_apart, none_takes fs r, ne_eqb, cases_eq)
 
 not_accepted : (fs : List FieldShape) (r : WireRecord) (g : FieldShape) → Rising fs → field_at fs r.number ≡ Some g → is_accepted g r ≡ false → AllByRecursion (λ f. takes f r ≡ false) fs
 not_accepted [] r g rises found h = tt

@@ -1,11 +1,9 @@
 -- What a test of one content reports.
-use Rattle.std.proofs.Common.{Bool, Vec, Global, IsOk, IfErr, ◌≡◌, ℕ, ℤ, ◌<◌, ◌≤◌, ⊎_elim, List, [], ◌∷◌, map, flat_map, Result, Ok, Err, Option, Some, None, true, inl, inr, refl, sym, subst, ◌∙◌, arith}
+use Rattle.std.proofs.Common.{Bool, Vec, Global, IsOk, IfErr, ◌≡◌, ℕ, ℤ, ◌<◌, ◌≤◌, ⊎_elim, List, [], ◌∷◌, map, flat_map, Result, Ok, Err, Option, Some, None, inl, inr, refl, sym, subst, arith, rules, true}
 use Rattle.std.specs.Prelude.{⊤}
 use Rattle.std.specs.List.{AllByRecursion}
-use Rattle.std.specs.Str.{is_utf8}
 use Rattle.std.proofs.lemmas.Str.{IsUtf8-from_is_utf8, utf8_valid_len-IsUtf8, utf8_valid_len-IsValidUpTo}
 use Rattle.pg_schema.specs.declared.parts.field.Scalar.{Scalar}
-use Rattle.pg_schema.specs.declared.parts.field.Scalar.TheVariants.{Int32}
 use Rattle.pg_schema.specs.declared.parts.field.TypeId.{TypeId}
 use Rattle.pg_schema.specs.declared.parts.field.Element.{Element}
 use Rattle.pg_schema.specs.declared.parts.field.Element.TheVariants as elements
@@ -19,7 +17,7 @@ use Rattle.pg_dyn.specs.declared.message.Content.{Content}
 use Rattle.pg_dyn.specs.declared.message.Content.TheVariants as contents
 use Rattle.pg_dyn.specs.declared.message.Value.{Value}
 use Rattle.pg_dyn.specs.declared.message.Value.TheVariants as values
-use Rattle.pg_dyn.specs.word.Coding.{Form, Integer, Single, Double, Text, Raw, InRange, scalar_form}
+use Rattle.pg_dyn.specs.word.Coding.{Form, InRange, scalar_form}
 use Rattle.pg_dyn.specs.message.Message.{Int}
 use Rattle.pg_dyn.specs.word.WordOf.{IsInteger, IsIntegerOf}
 use Rattle.pg_dyn.specs.message.Seen.{leaf_of, IsKey}
@@ -30,101 +28,42 @@ use Rattle.pg_dyn.specs.fitting.ContentFits.{ItemFits, EntryFits, ItemsFit}
 use Rattle.pg_dyn.specs.inner.Reported.{Reports, EntryFault, TakesContent}
 use Rattle.pg_dyn.proofs.lemmas.setting.LowestFault.{none_first, reported_so}
 use Rattle.pg_dyn.proofs.lemmas.fitting.ItemLeaves.{in_range, item_is_key}
+use Rattle.std.specs.Str.{is_utf8}
 
 -- Of several faults.
 
 module _ (F : DynError → Type 0) where
   pub lowest : (e : DynError) → F e → code_of e ≤ 605 → (F errors.Memory → ⊥) → ((w : WireError) → F (errors.Wire w) → ⊥) → (601 < code_of e → F errors.NoSuchField → ⊥) → (602 < code_of e → F errors.WrongKind → ⊥) → (603 < code_of e → F errors.OutOfRange → ⊥)
       → (604 < code_of e → (at : ℕ) → F (errors.NotUtf8 at) → ⊥) → IsLowest F e
-  lowest e h most memory wire number kind range text = (h, below)
-    where
-      below : (other : DynError) → code_of other < code_of e → F other → ⊥
-      below errors.Memory low k = memory k
-      below errors.NoSuchField low k = number low k
-      below errors.WrongKind low k = kind low k
-      below errors.OutOfRange low k = range low k
-      below (errors.NotUtf8 at) low k = text low at k
-      below errors.OneofTwice low k = absurd (omega arith)
-      below errors.DuplicateKey low k = absurd (omega arith)
-      below errors.TooLong low k = absurd (omega arith)
-      below (errors.TooDeep at) low k = absurd (omega arith)
-      below (errors.Wire w) low k = wire w k
+  lowest e h most memory wire number kind range text = search (rules, arith)
 
 -- What is wrong with an item.
 
 integer_kind : (f : Form) (n : ℤ) → IsInteger f → IsKindOf f (values.Int n)
-integer_kind (Integer w) n h = tt
-integer_kind Single n h = absurd h
-integer_kind Double n h = absurd h
-integer_kind Text n h = absurd h
-integer_kind Raw n h = absurd h
+integer_kind f n h = grind arith
 
 of_integer : (s : Scalar) (v : Value) → IsOutOfRange s v → IsKindOf (scalar_form s) v
-of_integer s (values.Int n) h = integer_kind (scalar_form s) n h.0
-of_integer s (values.F32 x) h = absurd h
-of_integer s (values.F64 x) h = absurd h
-of_integer s (values.Text x) h = absurd h
-of_integer s (values.Bytes x) h = absurd h
-of_integer s (values.Msg x) h = absurd h
+of_integer s v h = grind (arith, integer_kind)
 
 of_text : (s : Scalar) (v : Value) (at : ℕ) → IsNoText s at v → IsKindOf (scalar_form s) v × (IsOutOfRange s v → ⊥)
-of_text s (values.Int x) at h = absurd h
-of_text s (values.F32 x) at h = absurd h
-of_text s (values.F64 x) at h = absurd h
-of_text s (values.Text x) at h = absurd h
-of_text s (values.Bytes x) at h = (subst (λ f. IsKindOf f (values.Bytes x)) (sym h.0) tt, λ k. k)
-of_text s (values.Msg x) at h = absurd h
+of_text s v at h = grind arith
 
 -- an item of the scalar has none of these
 
 int_kind : (f : Form) (n : ℤ) → InRange f (Int n) → IsKindOf f (values.Int n)
-int_kind (Integer w) n h = tt
-int_kind Single n h = absurd h
-int_kind Double n h = absurd h
-int_kind Text n h = absurd h
-int_kind Raw n h = absurd h
+int_kind f n h = grind arith
 
 int_range : (f : Form) (n : ℤ) → InRange f (Int n) → IsIntegerOf f n
-int_range (Integer w) n h = h
-int_range Single n h = absurd h
-int_range Double n h = absurd h
-int_range Text n h = absurd h
-int_range Raw n h = absurd h
+int_range f n h = grind arith
 
 item_kind : (f : Form) (v : Value) → IsKey v → InRange f (leaf_of v) → IsKindOf f v
-item_kind f (values.Int n) key h = int_kind f n h
-item_kind (Integer w) (values.F32 x) key h = absurd h
-item_kind Single (values.F32 x) key h = tt
-item_kind Double (values.F32 x) key h = absurd h
-item_kind Text (values.F32 x) key h = absurd h
-item_kind Raw (values.F32 x) key h = absurd h
-item_kind (Integer w) (values.F64 x) key h = absurd h
-item_kind Single (values.F64 x) key h = absurd h
-item_kind Double (values.F64 x) key h = tt
-item_kind Text (values.F64 x) key h = absurd h
-item_kind Raw (values.F64 x) key h = absurd h
-item_kind (Integer w) (values.Text x) key h = absurd h
-item_kind Single (values.Text x) key h = absurd h
-item_kind Double (values.Text x) key h = absurd h
-item_kind Text (values.Text x) key h = tt
-item_kind Raw (values.Text x) key h = tt
-item_kind (Integer w) (values.Bytes x) key h = absurd h
-item_kind Single (values.Bytes x) key h = absurd h
-item_kind Double (values.Bytes x) key h = absurd h
-item_kind Text (values.Bytes x) key h = tt
-item_kind Raw (values.Bytes x) key h = tt
-item_kind f (values.Msg x) key h = absurd key
+item_kind f v key h = grind (arith, int_kind)
 
 kind_of_item : (s : Scalar) (v : Value) → IsItemOf s v → IsKindOf (scalar_form s) v
 kind_of_item s v h = item_kind (scalar_form s) v (item_is_key s v h) (in_range s v h)
 
 range_of_item : (s : Scalar) (v : Value) → IsItemOf s v → IsOutOfRange s v → ⊥
-range_of_item s (values.Int n) h out = out.1 (int_range (scalar_form s) n h)
-range_of_item s (values.F32 x) h out = out
-range_of_item s (values.F64 x) h out = out
-range_of_item s (values.Text x) h out = out
-range_of_item s (values.Bytes x) h out = out
-range_of_item s (values.Msg x) h out = out
+range_of_item s v h out = grind (arith, int_range)
 
 text_of_item : (s : Scalar) (v : Value) (at : ℕ) → IsItemOf s v → IsNoText s at v → ⊥
 text_of_item s (values.Int x) at h none = none
@@ -140,30 +79,10 @@ text_of_item s (values.Msg x) at h none = none
 -- An item, and what is wrong with it.
 
 pub no_scalar_fault : (s : Scalar) (v : Value) → IsItemOf s v → (e : DynError) → IsFaultOf s v e → ⊥
-no_scalar_fault s v item errors.WrongKind k = k (kind_of_item s v item)
-no_scalar_fault s v item errors.OutOfRange k = range_of_item s v item k
-no_scalar_fault s v item (errors.NotUtf8 at) k = text_of_item s v at item k
-no_scalar_fault s v item errors.Memory k = k
-no_scalar_fault s v item errors.NoSuchField k = k
-no_scalar_fault s v item errors.OneofTwice k = k
-no_scalar_fault s v item errors.DuplicateKey k = k
-no_scalar_fault s v item errors.TooLong k = k
-no_scalar_fault s v item (errors.TooDeep at) k = k
-no_scalar_fault s v item (errors.Wire w) k = k
+no_scalar_fault s v item e k = grind (arith, kind_of_item, range_of_item, text_of_item)
 
 scalar_lowest : (s : Scalar) (v : Value) (e : DynError) → IsFaultOf s v e → IsLowest (IsFaultOf s v) e × (code_of e < 605)
-scalar_lowest s v errors.WrongKind k = (lowest (IsFaultOf s v) errors.WrongKind k (omega arith) (λ x. x) (λ w x. x) (λ low x. x) (λ low x. omega arith) (λ low x. omega arith) (λ low at x. omega arith), omega arith)
-scalar_lowest s v errors.OutOfRange k =
-    (lowest (IsFaultOf s v) errors.OutOfRange k (omega arith) (λ x. x) (λ w x. x) (λ low x. x) (λ low x. x (of_integer s v k)) (λ low x. omega arith) (λ low at x. omega arith), omega arith)
-scalar_lowest s v (errors.NotUtf8 at) k =
-    (lowest (IsFaultOf s v) (errors.NotUtf8 at) k (omega arith) (λ x. x) (λ w x. x) (λ low x. x) (λ low x. x (of_text s v at k).0) (λ low x. (of_text s v at k).1 x) (λ low other x. omega arith), omega arith)
-scalar_lowest s v errors.Memory k = absurd k
-scalar_lowest s v errors.NoSuchField k = absurd k
-scalar_lowest s v errors.OneofTwice k = absurd k
-scalar_lowest s v errors.DuplicateKey k = absurd k
-scalar_lowest s v errors.TooLong k = absurd k
-scalar_lowest s v (errors.TooDeep at) k = absurd k
-scalar_lowest s v (errors.Wire w) k = absurd k
+scalar_lowest s v e k = grind (arith, lowest, of_integer, of_text)
 
 -- what a test of an item answers, in the words of its scalar
 pub reported_scalar : (s : Scalar) (v : Value) (r : Result (Unit {0}) DynError) → (IsOk r → IsItemOf s v) → IfErr r (IsFaultOf s v) → Reports (IsItemOf s v) (IsFaultOf s v) r
@@ -179,30 +98,10 @@ IsOfItem e = ⊥
 
 module _ (shape : Shape) where
   scalar_error : (s : Scalar) (v : Value) (e : DynError) → IsFaultOf s v e → IsOfItem e
-  scalar_error s v errors.WrongKind k = tt
-  scalar_error s v errors.OutOfRange k = tt
-  scalar_error s v (errors.NotUtf8 at) k = tt
-  scalar_error s v errors.Memory k = k
-  scalar_error s v errors.NoSuchField k = k
-  scalar_error s v errors.OneofTwice k = k
-  scalar_error s v errors.DuplicateKey k = k
-  scalar_error s v errors.TooLong k = k
-  scalar_error s v (errors.TooDeep at) k = k
-  scalar_error s v (errors.Wire w) k = k
+  scalar_error s v e k = grind arith
 
   item_error : (element : Element) (v : Value) (e : DynError) → ElementFault shape element v e → IsOfItem e
-  item_error (elements.Scalar s) v e k = scalar_error s v e k
-  item_error (elements.Enum n) v e k = scalar_error Int32 v e k
-  item_error (elements.Message t) v errors.WrongKind k = tt
-  item_error (elements.Message t) v errors.OutOfRange k = tt
-  item_error (elements.Message t) v (errors.NotUtf8 at) k = tt
-  item_error (elements.Message t) v errors.Memory k = k
-  item_error (elements.Message t) v errors.NoSuchField k = k
-  item_error (elements.Message t) v errors.OneofTwice k = k
-  item_error (elements.Message t) v errors.DuplicateKey k = k
-  item_error (elements.Message t) v errors.TooLong k = k
-  item_error (elements.Message t) v (errors.TooDeep at) k = k
-  item_error (elements.Message t) v (errors.Wire w) k = k
+  item_error element v e k = grind (arith, scalar_error)
 
   any_error : (xs : List (Element × Value)) (e : DynError) → FirstOf (λ (x : Element × Value). ElementFault shape x.0 x.1) xs e → IsOfItem e
   any_error [] e k = absurd k
@@ -210,41 +109,16 @@ module _ (shape : Shape) where
   any_error (x ∷ xs) e (inr k) = any_error xs e k.1
 
   child_right : (t : TypeId) (v : Value) → ItemFits shape (elements.Message t) v → (e : DynError) → ElementFault shape (elements.Message t) v e → ⊥
-  child_right t v h errors.WrongKind k = not_other t v h k
-    where
-      not_other : (u : TypeId) (w : Value) → ItemFits shape (elements.Message u) w → ElementFault shape (elements.Message u) w errors.WrongKind → ⊥
-      not_other u (values.Msg child) fits none = none fits
-      not_other u (values.Int x) fits none = fits
-      not_other u (values.F32 x) fits none = fits
-      not_other u (values.F64 x) fits none = fits
-      not_other u (values.Text x) fits none = fits
-      not_other u (values.Bytes x) fits none = fits
-  child_right t v h errors.OutOfRange k = k
-  child_right t v h (errors.NotUtf8 at) k = k
-  child_right t v h errors.Memory k = k
-  child_right t v h errors.NoSuchField k = k
-  child_right t v h errors.OneofTwice k = k
-  child_right t v h errors.DuplicateKey k = k
-  child_right t v h errors.TooLong k = k
-  child_right t v h (errors.TooDeep at) k = k
-  child_right t v h (errors.Wire w) k = k
+  child_right t v h e k = grind arith
 
   child_wrong : (t : TypeId) (v : Value) → (ItemFits shape (elements.Message t) v → ⊥) → ElementFault shape (elements.Message t) v errors.WrongKind
-  child_wrong t (values.Msg child) none = none
-  child_wrong t (values.Int x) none = tt
-  child_wrong t (values.F32 x) none = tt
-  child_wrong t (values.F64 x) none = tt
-  child_wrong t (values.Text x) none = tt
-  child_wrong t (values.Bytes x) none = tt
+  child_wrong t v none = grind arith
 
   pub item_right : (element : Element) (v : Value) → ItemFits shape element v → HasNoEarlyFault (ElementFault shape element v)
-  item_right (elements.Scalar s) v h e early k = no_scalar_fault s v h e k
-  item_right (elements.Enum n) v h e early k = no_scalar_fault Int32 v h e k
-  item_right (elements.Message t) v h e early k = child_right t v h e k
+  item_right element v h e early k = grind (arith, no_scalar_fault, child_right)
 
   pub reported_other : (t : TypeId) (v : Value) → (ItemFits shape (elements.Message t) v → ⊥) → IsLowest (ElementFault shape (elements.Message t) v) errors.WrongKind × (code_of errors.WrongKind < 605)
-  reported_other t v none =
-      (lowest (ElementFault shape (elements.Message t) v) errors.WrongKind (child_wrong t v none) (omega arith) (λ x. x) (λ w x. x) (λ low x. x) (λ low x. omega arith) (λ low x. omega arith) (λ low at x. omega arith), omega arith)
+  reported_other t v none = search (rules, arith, lowest, child_wrong)
 
   pub entry_right : (key : Scalar) (element : Element) (x : Value × Value) → EntryFits shape key element x → HasNoEarlyFault (EntryFault shape key element x)
   entry_right key element x h e early k = ⊎_elim (λ a. item_right (elements.Scalar key) x.0 h.0 e early a) (λ b. item_right element x.1 h.1 e early b.1) k
@@ -266,9 +140,7 @@ first_two : {A B : Type 0} (F : B → DynError → Type 0) (f g : A → B) (xs :
 first_two F f g [] e k = k
 first_two F f g (x ∷ xs) e (inl (inl k)) = inl k
 first_two F f g (x ∷ xs) e (inl (inr k)) = inr (k.0, inl k.1)
-first_two F f g (x ∷ xs) e (inr k) =
-    let none : (other : DynError) → code_of other ≡ code_of e → F (f x) other → ⊥ = λ other same h. k.0 other same (inl h) in
-    inr (none, inr ((λ other same h. k.0 other same (inr ((λ another alike. none another (alike ∙ same)), h))), first_two F f g xs e k.1))
+first_two F f g (x ∷ xs) e (inr k) = search (rules, first_two F f g xs e k.1)
 
 neither : {A B : Type 0} (F : B → DynError → Type 0) (f g : A → B) (x : A) (other : DynError) → (F (f x) other → ⊥) → (F (g x) other → ⊥) → FirstOfTwo (F (f x)) (F (g x)) other → ⊥
 neither F f g x other first second (inl h) = first h
@@ -295,16 +167,7 @@ module _ (shape : Shape) (f : FieldShape) (c : Content) where
 
   module _ (has : HasPresence f.presence c) where
     from_field : (e : DynError) → code_of e < 605 → FieldFault shape f c e → HasItemFault shape f c e
-    from_field errors.WrongKind early k = ⊎_elim (λ none. absurd (none has)) (λ h. h) k
-    from_field errors.OutOfRange early k = k
-    from_field (errors.NotUtf8 at) early k = k
-    from_field errors.Memory early k = absurd k
-    from_field errors.NoSuchField early k = absurd k
-    from_field errors.OneofTwice early k = absurd k
-    from_field errors.DuplicateKey early k = absurd (omega arith)
-    from_field errors.TooLong early k = absurd k
-    from_field (errors.TooDeep at) early k = absurd k
-    from_field (errors.Wire w) early k = absurd k
+    from_field e early k = grind arith
 
 module _ (shape : Shape) (n : ℕ) (element : Element) (oneof : Option ℕ) (r : Result (Unit {0}) DynError) where
   abbrev with_presence : Presence → FieldShape
@@ -315,8 +178,7 @@ module _ (shape : Shape) (n : ℕ) (element : Element) (oneof : Option ℕ) (r :
 
   of_items : (p : Presence) (c : Content) (P : Type 0) (F : DynError → Type 0) → HasPresence p c → (P → ItemsFit shape p element c) → ((e : DynError) → F e → HasItemFault shape (with_presence p) c e)
       → ((e : DynError) → HasItemFault shape (with_presence p) c e → F e) → Reports P F r → TellsField p c
-  of_items p c P F has right to back h =
-      reported_so P (ItemsFit shape p element c) F (FieldFault shape (with_presence p) c) right (λ e k. to_field shape (with_presence p) c e (to e k)) (λ e early k. back e (from_field shape (with_presence p) c has e early k)) r h
+  of_items p c P F has right to back h = search (rules, reported_so, to_field, from_field)
 
   pub reported_list : (packed : Bool) (vs : Vec Value Global) → Reports (AllByRecursion (ItemFits shape element) vs.items) (FirstOf (ElementFault shape element) vs.items) r → TellsField (presences.Repeated packed) (contents.Many vs)
   reported_list packed vs h =
@@ -362,40 +224,16 @@ module _ (shape : Shape) (type : TypeId) (n : ℕ) (c : Content) where
 
   module _ (f : FieldShape) (found : field_at (fields shape type) n ≡ Some f) where
     to_content : (e : DynError) → FieldFault shape f c e → Fault e
-    to_content errors.NoSuchField k = absurd k
-    to_content errors.WrongKind k = (f, found, k)
-    to_content errors.OutOfRange k = (f, found, k)
-    to_content (errors.NotUtf8 at) k = (f, found, k)
-    to_content errors.Memory k = (f, found, k)
-    to_content errors.OneofTwice k = (f, found, k)
-    to_content errors.DuplicateKey k = (f, found, k)
-    to_content errors.TooLong k = (f, found, k)
-    to_content (errors.TooDeep at) k = (f, found, k)
-    to_content (errors.Wire w) k = (f, found, k)
+    to_content e k = grind arith
 
     same : (g : FieldShape) → field_at (fields shape type) n ≡ Some g → g ≡ f
-    same g there = some_same g f (sym there ∙ found)
-      where
-        some_same : (a b : FieldShape) → ◌≡◌ {A = Option FieldShape} (Some a) (Some b) → a ≡ b
-        some_same a b e = cc
+    same g there = search rules
 
     here : (e : DynError) → (g : FieldShape) × (field_at (fields shape type) n ≡ Some g) × FieldFault shape g c e → FieldFault shape f c e
     here e k = subst (λ g. FieldFault shape g c e) (same k.0 k.1) k.2
 
     from_content : (e : DynError) → Fault e → FieldFault shape f c e
-    from_content errors.NoSuchField k = some_none f (sym found ∙ k)
-      where
-        some_none : (a : FieldShape) → ◌≡◌ {A = Option FieldShape} (Some a) None → ⊥
-        some_none a e = cc
-    from_content errors.WrongKind k = here errors.WrongKind k
-    from_content errors.OutOfRange k = here errors.OutOfRange k
-    from_content (errors.NotUtf8 at) k = here (errors.NotUtf8 at) k
-    from_content errors.Memory k = here errors.Memory k
-    from_content errors.OneofTwice k = here errors.OneofTwice k
-    from_content errors.DuplicateKey k = here errors.DuplicateKey k
-    from_content errors.TooLong k = here errors.TooLong k
-    from_content (errors.TooDeep at) k = here (errors.TooDeep at) k
-    from_content (errors.Wire w) k = here (errors.Wire w) k
+    from_content e k = grind (arith, here)
 
     pub content_lowest : (e : DynError) → IsLowest (FieldFault shape f c) e → IsLowest Fault e
     content_lowest e h = (to_content e h.0, λ other low k. h.1 other low (from_content other k))
@@ -409,34 +247,10 @@ module _ (shape : Shape) (type : TypeId) (n : ℕ) (c : Content) where
       taken_early e early k = right e early (from_content e k)
 
       pub taken_once : (HasKeyTwice c → ⊥) → HasNoFault Fault
-      taken_once once e k = none e (from_content e k)
-        where
-          none : (e : DynError) → FieldFault shape f c e → ⊥
-          none errors.Memory k = k
-          none errors.NoSuchField k = k
-          none errors.WrongKind k = right errors.WrongKind (omega arith) k
-          none errors.OutOfRange k = right errors.OutOfRange (omega arith) k
-          none (errors.NotUtf8 at) k = right (errors.NotUtf8 at) (omega arith) k
-          none errors.OneofTwice k = k
-          none errors.DuplicateKey k = once k
-          none errors.TooLong k = k
-          none (errors.TooDeep at) k = k
-          none (errors.Wire w) k = k
+      taken_once once e k = search (rules, arith, from_content e k, right)
 
       pub taken_twice : HasKeyTwice c → IsLowest Fault errors.DuplicateKey
-      taken_twice twice = (to_content errors.DuplicateKey twice, λ other low k. below other low (from_content other k))
-        where
-          below : (e : DynError) → code_of e < 606 → FieldFault shape f c e → ⊥
-          below errors.Memory low k = k
-          below errors.NoSuchField low k = k
-          below errors.WrongKind low k = right errors.WrongKind (omega arith) k
-          below errors.OutOfRange low k = right errors.OutOfRange (omega arith) k
-          below (errors.NotUtf8 at) low k = right (errors.NotUtf8 at) (omega arith) k
-          below errors.OneofTwice low k = k
-          below errors.DuplicateKey low k = absurd (omega arith)
-          below errors.TooLong low k = k
-          below (errors.TooDeep at) low k = k
-          below (errors.Wire w) low k = k
+      taken_twice twice = search (rules, arith, to_content, from_content, right)
 
 -- a content that a field takes has none of the faults that a test of items finds
 pub takes_early : (shape : Shape) (type : TypeId) (x : ℕ × Content) → TakesContent shape type x → HasNoEarlyFault (ContentFault shape type x.0 x.1)

@@ -1,5 +1,5 @@
 -- A message that fits and holds a member of a oneof holds no other, and loses just that one where another is set.
-use Rattle.std.proofs.Common.{◌≡◌, ℕ, zero, suc, ◌<◌, List, [], ◌∷◌, length, get_or, Bool, true, false, not, Option, Some, None, refl, ap, sym, subst, ◌∙◌, arith, true≢false, ◌≢◌, filter, nat_eq, cond, ⊎_elim, eq-eqb, ne_eqb}
+use Rattle.std.proofs.Common.{◌≡◌, ℕ, zero, suc, ◌<◌, List, [], ◌∷◌, length, get_or, Bool, true, false, not, Option, Some, None, refl, ap, sym, ◌∙◌, arith, true≢false, ◌≢◌, filter, nat_eq, cond, eq-eqb, ne_eqb, rules}
 use Rattle.std.specs.List.{AllByRecursion}
 use Rattle.std.proofs.lemmas.Bool.{and_parts, and_from, cases_eq, eqb-true, not-true}
 use Rattle.pg_schema.specs.Shape.{FieldShape, field_at}
@@ -45,34 +45,18 @@ module _ (fs : List FieldShape) (rising : Rising fs) (f : FieldShape) (n : ℕ) 
 
   pub held_alone : (cs : List (ℕ × Content)) (i : ℕ) (d : ℕ × Content) → i < length cs → (get_or cs i d).0 ≡ n → NoneSiblings fs cs → AllByRecursion Stays cs
   held_alone [] i d inside here none = absurd (omega arith)
-  held_alone (c ∷ cs) zero d inside here none = (
-    ap not (subst (λ m. is_sibling_number fs f m ≡ false) (sym here) own),
-    each_weaker (λ (l : ℕ × Content). AreApart fs c.0 l.0) Stays (λ l apart. ap not (after l.0 (subst (λ m. AreApart fs m l.0) here apart))) cs none.0,
-  )
-  held_alone (c ∷ cs) (suc i) d inside here none = (
-    ap not (before c.0 (subst (λ m. AreApart fs c.0 m) here (at_index (λ (l : ℕ × Content). AreApart fs c.0 l.0) cs i d (omega arith) none.0))),
-    held_alone cs i d (omega arith) here none.1,
-  )
+  held_alone (c ∷ cs) zero d inside here none = search (rules, own, each_weaker, after)
+  held_alone (c ∷ cs) (suc i) d inside here none =
+      search (rules, arith, before, at_index, held_alone cs i d)
 
 -- The one that is lost.
 
 same_third : (a b c : Option ℕ) → same_oneof a b ≡ true → same_oneof a c ≡ true → same_oneof b c ≡ true
-same_third (Some a) (Some b) (Some c) h k = eq-eqb b c (sym (eqb-true a b h) ∙ eqb-true a c k)
-same_third None b c h k = absurd (cc)
-same_third (Some a) None c h k = absurd (cc)
-same_third (Some a) (Some b) None h k = absurd (cc)
+same_third a b c h k = grind (arith, eq-eqb, eqb-true)
 
 -- of two members of a oneof, each is a sibling of the third, but for itself
 third : (f g h : FieldShape) → is_sibling f g ≡ true → is_sibling g h ≡ false → g.number ≢ h.number → is_sibling f h ≡ false
-third f g h one none apart = of (is_sibling f h) refl
-  where
-    of : (b : Bool) → is_sibling f h ≡ b → is_sibling f h ≡ false
-    of false e = e
-    of true e =
-        let first = (and_parts (same_oneof f.oneof g.oneof) (not (nat_eq f.number g.number)) one).0 in
-        let second = (and_parts (same_oneof f.oneof h.oneof) (not (nat_eq f.number h.number)) e).0 in
-        let both = and_from (same_oneof g.oneof h.oneof) (not (nat_eq g.number h.number)) (same_third f.oneof g.oneof h.oneof first second) (ap not (ne_eqb g.number h.number apart)) in
-        absurd (true≢false (sym both ∙ none))
+third f g h one none apart = search (rules, and_parts, and_from, same_third, ne_eqb, true≢false)
 
 filter_on : (p q : ℕ × Content → Bool) (xs : List (ℕ × Content)) → AllByRecursion (λ (x : ℕ × Content). p x ≡ q x) xs → filter p xs ≡ filter q xs
 filter_on p q [] e = refl
@@ -81,11 +65,7 @@ filter_on p q (x ∷ xs) e = ap (λ b. cond b (x ∷ filter p xs) (filter p xs))
 module _ (fs : List FieldShape) (rising : Rising fs) (f : FieldShape) (found : field_at fs f.number ≡ Some f) (n : ℕ) (sibling : is_sibling_number fs f n ≡ true)
     (ms : List (ℕ × Content)) (rises : Rises ms) (i : ℕ) (d : ℕ × Content) (inside : i < length ms) (here : (get_or ms i d).0 ≡ n) (apart : NoneSiblings fs ms) where
   the_sibling : (g : FieldShape) × (field_at fs n ≡ Some g) × (is_sibling f g ≡ true)
-  the_sibling = of (field_at fs n) refl
-    where
-      of : (x : Option FieldShape) → field_at fs n ≡ x → (g : FieldShape) × (field_at fs n ≡ Some g) × (is_sibling f g ≡ true)
-      of (Some g) there = (g, there, sym (sibling_found fs f g n rising there) ∙ sibling)
-      of None there = absurd (true≢false (sym sibling ∙ sibling_nowhere fs f n there))
+  the_sibling = search (rules, sibling_found, true≢false, sibling_nowhere)
 
   module _ (g : FieldShape) (there : field_at fs n ≡ Some g) (one : is_sibling f g ≡ true) where
     off : (m : ℕ) → n ≢ m → is_sibling_number fs g m ≡ false → is_sibling_number fs f m ≡ false
@@ -98,11 +78,7 @@ module _ (fs : List FieldShape) (rising : Rising fs) (f : FieldShape) (found : f
         of None at = sibling_nowhere fs f m at
 
     same_test : (x : ℕ × Content) → not (is_sibling_number fs g x.0) ≡ true → not (is_sibling_number fs f x.0) ≡ not (nat_eq n x.0)
-    same_test x stays =
-        ⊎_elim
-        (λ same. ap not (ap (is_sibling_number fs f) (sym same) ∙ sibling ∙ sym (eq-eqb n x.0 same)))
-        (λ other. ap not (off x.0 other (not-true (is_sibling_number fs g x.0) stays) ∙ sym (ne_eqb n x.0 other)))
-        (cases_eq n x.0)
+    same_test x stays = search (rules, eq-eqb, off, not-true, ne_eqb, cases_eq)
 
     one_out : filter (λ (x : ℕ × Content). not (is_sibling_number fs f x.0)) ms ≡ remove_field n ms
     one_out =

@@ -1,5 +1,5 @@
 -- Entries sorted in any way are the entries by rising key.
-use Rattle.std.proofs.Common.{◌≡◌, ℕ, ◌<◌, List, [], ◌∷◌, length, map, filter, Bool, true, false, true≢false, cond, if◌then◌else◌, Some, ◌⊎◌, inl, inr, ⊎_elim, refl, ap, sym, subst, ◌∙◌, arith}
+use Rattle.std.proofs.Common.{◌≡◌, ℕ, ◌<◌, List, [], ◌∷◌, length, map, filter, Bool, true, false, true≢false, cond, if◌then◌else◌, Some, ◌⊎◌, inl, inr, ⊎_elim, refl, ap, sym, subst, ◌∙◌, arith, rules}
 use Rattle.std.specs.List.{AllByRecursion}
 use Rattle.std.specs.List.Sorted.{IsPermutation}
 use Rattle.std.specs.Ordering.{is_lt}
@@ -100,11 +100,7 @@ below_trans a b [] first h = tt
 below_trans a b (x ∷ xs) first h = (key_trans (leaf_of a.0) (leaf_of b.0) (leaf_of x.0) first h.0, below_trans a b xs first h.1)
 
 is_less : (a b : Entry) → is_below a b ≡ true → Below a b
-is_less a b h = of (key_cmp (leaf_of a.0) (leaf_of b.0)) refl h
-  where
-    of : (o : _) → key_cmp (leaf_of a.0) (leaf_of b.0) ≡ o → is_lt o ≡ true → Below a b
-    of Less e k = e
-    of o e k = absurd (cc)
+is_less a b h = search rules
 
 put_rises : (e : Entry) (fs : List Entry) → AllByRecursion (Apart e) fs → KeysRise fs → KeysRise (put e fs)
 unfolding put

@@ -1,5 +1,5 @@
 -- The lowest fault of a row, one element after the other.
-use Rattle.std.proofs.Common.{◌≡◌, ◌≤◌, ◌<◌, ◌+◌, ℕ, zero, suc, List, [], ◌∷◌, ◌++◌, length, take, get_or, Result, Ok, Err, ◌⊎◌, inl, inr, ⊎_elim, ap, sym, subst, ◌∙◌, arith, add-one}
+use Rattle.std.proofs.Common.{◌≡◌, ◌≤◌, ◌<◌, ◌+◌, ℕ, zero, suc, List, [], ◌∷◌, ◌++◌, length, take, get_or, Result, Ok, Err, ◌⊎◌, inl, inr, ⊎_elim, ap, sym, subst, ◌∙◌, arith, add-one, rules}
 use Rattle.std.specs.List.{AllByRecursion}
 use Rattle.std.proofs.lemmas.List.{take_all}
 use Rattle.pg_dyn.specs.declared.error.DynError.{DynError}
@@ -24,9 +24,7 @@ module _ {A : Type 0} (F : A → DynError → Type 0) where
 
   first_last : (xs : List A) (x : A) (e : DynError) → NoneSo (FirstOf F xs) e → F x e → FirstOf F (xs ++ x ∷ []) e
   first_last [] x e none h = inl h
-  first_last (y ∷ xs) x e none h =
-      let here : NoneSo (F y) e = λ other same k. none other same (inl k) in
-      inr (here, first_last xs x e (λ other same k. none other same (inr ((λ another alike. here another (alike ∙ same)), k))) h)
+  first_last (y ∷ xs) x e none h = search (rules, first_last xs x e)
 
   none_so : (y : A) (xs : List A) (e : DynError) → NoneSo (F y) e → NoneSo (FirstOf F xs) e → NoneSo (FirstOf F (y ∷ xs)) e
   none_so y xs e here later other same (inl k) = here other same k
@@ -41,26 +39,13 @@ module _ {A : Type 0} (F : A → DynError → Type 0) where
 -- Of two answers the lower one is that of both, of equal ones the first.
 module _ (P Q : Type 0) (F G : DynError → Type 0) (p : P → HasNoEarlyFault F) (q : Q → HasNoEarlyFault G) where
   first_lower : (a b : Result (Unit {0}) DynError) → Reports P F a → Reports Q G b → reported_code a ≤ reported_code b → Reports (P × Q) (FirstOfTwo F G) a
-  first_lower (Ok t) (Ok u) x y le = (x, y)
-  first_lower (Ok t) (Err e) x y le = absurd (let early : code_of e < 605 = y.1 in omega arith)
-  first_lower (Err e) (Ok u) x y le =
-      ((inl x.0.0, λ other low. ⊎_elim (λ k. x.0.1 other low k) (λ k. let early : code_of other < 605 = omega (arith, x.1) in q y other early k.1)), x.1)
-  first_lower (Err e) (Err d) x y le = ((inl x.0.0, λ other low. ⊎_elim (λ k. x.0.1 other low k) (λ k. let below : code_of other < code_of d = omega arith in y.0.1 other below k.1)), x.1)
+  first_lower a b x y le = grind arith
 
   second_lower : (a b : Result (Unit {0}) DynError) → Reports P F a → Reports Q G b → reported_code b < reported_code a → Reports (P × Q) (FirstOfTwo F G) b
-  second_lower (Ok t) (Ok u) x y lt = absurd (omega arith)
-  second_lower (Err e) (Ok u) x y lt = absurd (let early : code_of e < 605 = x.1 in omega arith)
-  second_lower (Ok t) (Err e) x y lt =
-      let none : (other : DynError) → code_of other ≡ code_of e → F other → ⊥ = λ other same k. let early : code_of other < 605 = omega (arith, y.1) in p x other early k in
-      ((inr (none, y.0.0), λ other low. ⊎_elim (λ k. let early : code_of other < 605 = omega (arith, y.1) in p x other early k) (λ k. y.0.1 other low k.1)), y.1)
-  second_lower (Err e) (Err d) x y lt =
-      let none : (other : DynError) → code_of other ≡ code_of d → F other → ⊥ = λ other same k. let below : code_of other < code_of e = omega arith in x.0.1 other below k in
-      ((inr (none, y.0.0), λ other low. ⊎_elim (λ k. let below : code_of other < code_of e = omega arith in x.0.1 other below k) (λ k. y.0.1 other low k.1)), y.1)
+  second_lower a b x y lt = grind arith
 
   pub reported_both : (a b r : Result (Unit {0}) DynError) → Reports P F a → Reports Q G b → (r ≡ a) ⊎ ((r ≡ b) × (reported_code b < reported_code a)) → reported_code r ≤ reported_code b → Reports (P × Q) (FirstOfTwo F G) r
-  reported_both a b r x y one le =
-      ⊎_elim (λ is. subst (Reports (P × Q) (FirstOfTwo F G)) (sym is) (first_lower a b x y (subst (λ k. reported_code k ≤ reported_code b) is le)))
-      (λ is. subst (Reports (P × Q) (FirstOfTwo F G)) (sym is.0) (second_lower a b x y is.1)) one
+  reported_both a b r x y one le = search (rules, first_lower, second_lower)
 
 -- the same in other words
 pub reported_so : (P Q : Type 0) (F G : DynError → Type 0) → (P → Q) → ((e : DynError) → F e → G e) → ((e : DynError) → code_of e < 605 → G e → F e) → (r : Result (Unit {0}) DynError) → Reports P F r → Reports Q G r

@@ -1,5 +1,5 @@
 -- Contents without the members of a oneof, which are taken out one by one.
-use Rattle.std.proofs.Common.{◌≡◌, ◌≢◌, ℕ, ◌+◌, ◌<◌, ◌≤◌, List, [], ◌∷◌, ◌++◌, map, filter, length, take, get_or, nat_lt, nat_eq, Bool, true, false, cond, not, ◌&&◌, ◌||◌, refl, ap, sym, subst, ◌∙◌, arith, add-one, ⊎_elim, eq-eqb, ne_eqb, lt-ltb, le-ltb}
+use Rattle.std.proofs.Common.{◌≡◌, ℕ, ◌+◌, ◌<◌, List, [], ◌∷◌, ◌++◌, map, filter, length, take, get_or, nat_eq, Bool, true, false, not, ◌&&◌, ◌||◌, refl, ap, sym, subst, ◌∙◌, arith, add-one, eq-eqb, ne_eqb, lt-ltb, le-ltb, rules}
 use Rattle.std.proofs.Math.Seq.{take-suc}
 use Rattle.std.proofs.lemmas.Bool.{cases_eq, ltb-true, ltb-false}
 use Rattle.std.proofs.Math.Bool.{or-false}
@@ -10,7 +10,7 @@ use Rattle.pg_schema.specs.Parts.{field_shape}
 use Rattle.pg_schema.specs.Shape.{FieldShape}
 use Rattle.pg_dyn.specs.declared.message.Content.{Content}
 use Rattle.pg_dyn.specs.reading.Content.{is_sibling}
-use Rattle.pg_dyn.specs.message.FieldList.{fields_below, fields_above, remove_field}
+use Rattle.pg_dyn.specs.message.FieldList.{remove_field}
 use Rattle.pg_dyn.specs.message.Replacing.{is_sibling_number}
 use Rattle.pg_dyn.specs.message.Seen.{Rises}
 use Rattle.pg_dyn.proofs.lemmas.message.FieldListLaws.{below_none, rises-filter}
@@ -20,11 +20,7 @@ use Rattle.pg_dyn.proofs.Lists.{each_of_all, each_weaker, filter_alike, filter_a
 
 filter-both : {A : Type 0} (p q : A → Bool) (xs : List A) → filter q (filter p xs) ≡ filter (λ x. p x && q x) xs
 filter-both p q [] = refl
-filter-both p q (x ∷ xs) =
-    elim (p x) as (λ b. filter q (cond b (x ∷ filter p xs) (filter p xs)) ≡ cond (b && q x) (x ∷ filter (λ y. p y && q y) xs) (filter (λ y. p y && q y) xs)) [
-      | true ↦ ap (cond (q x) (x ∷ filter q (filter p xs))) (filter-both p q xs) ∙ ap (λ ys. cond (q x) (x ∷ ys) (filter (λ y. p y && q y) xs)) (filter-both p q xs)
-      | false ↦ filter-both p q xs
-    ]
+filter-both p q (x ∷ xs) = search (rules, filter-both p q xs)
 
 neither : (a b : Bool) → (not a && not b) ≡ not (a || b)
 neither true b = refl
@@ -37,23 +33,21 @@ Removed n cs = remove_field n cs ≡ filter (λ (c : ℕ × Content). not (nat_e
 
 pub removed_is : (n : ℕ) (cs : List (ℕ × Content)) → Rises cs → Removed n cs
 removed_is n [] rises = refl
-removed_is n (c ∷ cs) rises = ⊎_elim (λ same. here same (removed_is n cs rises.1)) (λ apart. of (nat_lt c.0 n) refl apart (removed_is n cs rises.1)) (cases_eq n c.0)
-  where
-    here : n ≡ c.0 → Removed n cs → Removed n (c ∷ cs)
-    here same rest =
-        let low : n ≤ c.0 = omega (arith, same) in
-        let high : c.0 ≤ n = omega (arith, same) in
-        rw (le-ltb c.0 n low, le-ltb n c.0 high, eq-eqb n c.0 same) rest
-
-    of : (b : Bool) → nat_lt c.0 n ≡ b → n ≢ c.0 → Removed n cs → Removed n (c ∷ cs)
-    of true e apart rest =
-        let high : c.0 ≤ n = let below = ltb-true c.0 n e in omega arith in
-        rw (e, le-ltb n c.0 high, ne_eqb n c.0 apart) (ap (λ xs. c ∷ xs) rest)
-    of false e apart rest =
-        let low : n < c.0 = let not_below = ltb-false c.0 n e in omega (arith, apart, not_below) in
-        let none : fields_below n cs ≡ [] = below_none n cs (each_weaker (λ (x : ℕ × Content). c.0 < x.0) (λ (x : ℕ × Content). n ≤ x.0) (λ x k. let over : n ≤ x.0 = omega arith in over) cs rises.0) in
-        rw (e, lt-ltb n c.0 low, ne_eqb n c.0 apart)
-        (ap (λ xs. xs ++ c ∷ fields_above n cs) none ∙ ap (λ xs. c ∷ xs) (sym (ap (λ xs. xs ++ fields_above n cs) none) ∙ rest))
+removed_is n (c ∷ cs) rises =
+    search (
+      rules,
+      arith,
+      removed_is n cs rises.1,
+      cases_eq,
+      le-ltb,
+      eq-eqb,
+      ltb-true,
+      ne_eqb,
+      ltb-false,
+      below_none,
+      each_weaker,
+      lt-ltb,
+    )
 
 -- Members taken out, one by one.
 

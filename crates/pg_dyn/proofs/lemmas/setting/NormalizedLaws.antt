@@ -1,5 +1,5 @@
 -- Contents as their fields hold them.
-use Rattle.std.proofs.Common.{Vec, Global, Bool, true, false, Some, None, ◌≡◌, ℕ, zero, suc, ◌<◌, List, [], ◌∷◌, ◌++◌, length, map, take, cond, not, ◌+◌, ◌≤◌, get_or, slice_set, nat_eq, eq-eqb, true≢false, refl, ap, ap₂, sym, subst, ◌∙◌, arith}
+use Rattle.std.proofs.Common.{Vec, Global, Bool, true, false, Some, None, ◌≡◌, ℕ, zero, suc, ◌<◌, List, [], ◌∷◌, ◌++◌, length, map, take, ◌+◌, ◌≤◌, get_or, slice_set, nat_eq, eq-eqb, true≢false, refl, ap, ap₂, sym, subst, ◌∙◌, arith, rules}
 use Rattle.std.specs.List.{AllByRecursion}
 use Rattle.std.specs.List.Sorted.{IsPermutation}
 use Rattle.std.specs.declared.cmp.Ordering.TheVariants.{Less}
@@ -13,7 +13,6 @@ use Rattle.pg_schema.specs.Shape.{Shape}
 use Rattle.pg_dyn.specs.declared.message.Content.{Content}
 use Rattle.pg_dyn.specs.declared.message.Content.TheVariants as contents
 use Rattle.pg_dyn.specs.declared.message.Value.{Value}
-use Rattle.pg_dyn.specs.declared.message.Value.TheVariants as values
 use Rattle.pg_dyn.specs.setting.ContentFaults.{HasEntryTwice}
 use Rattle.pg_dyn.specs.fitting.ContentFits.{ContentFits, EntryKept, ItemFits, ItemKept, KeysRise, is_zero_value, EntryFits, ItemsFit}
 use Rattle.pg_dyn.specs.message.KeptParts.{KeptItem, Plain, Msg}
@@ -99,52 +98,32 @@ kept_zero e (Plain manner leaf) = refl
 kept_zero e (Msg listed child) = refl
 
 pub zero_seen : (l : Bool) (v : Value) → is_zero_kept (item_seen l v) ≡ is_zero_value v
-zero_seen l (values.Int x) = refl
-zero_seen l (values.F32 x) = refl
-zero_seen l (values.F64 x) = refl
-zero_seen l (values.Text x) = refl
-zero_seen l (values.Bytes x) = refl
-zero_seen l (values.Msg x) = refl
+zero_seen l v = grind arith
 
 module _ (shape : Shape) where
   pub one_fits : (p : Presence) (e : Element) (v w : Value) → ItemsFit shape p e (contents.One v) → is_nothing p (contents.One v) ≡ false → ItemFits shape e w → item_seen false w ≡ kept_item e (item_seen false v)
       → ContentFits shape p e (contents.One w)
-  one_fits presences.Implicit e v w items some fits seen = ((fits, kept_text shape e false w (item_seen false v) fits seen), sym (zero_seen false w) ∙ ap is_zero_kept seen ∙ kept_zero e (item_seen false v) ∙ zero_seen false v ∙ some)
-  one_fits presences.Explicit e v w items some fits seen = (fits, kept_text shape e false w (item_seen false v) fits seen)
-  one_fits (presences.Repeated packed) e v w items some fits seen = absurd items
-  one_fits (presences.Map key) e v w items some fits seen = absurd items
+  one_fits p e v w items some fits seen = grind (arith, kept_text, zero_seen, kept_zero)
 
   each_kept : (e : Element) (ws vs : List Value) → AllByRecursion (ItemFits shape e) ws → map (item_seen true) ws ≡ map (λ v. kept_item e (item_seen true v)) vs → AllByRecursion (ItemKept shape e) ws
   each_kept e [] vs fit seen = tt
   each_kept e (w ∷ ws) [] fit seen = absurd (cc)
   each_kept e (w ∷ ws) (v ∷ vs) fit seen =
-      let head : item_seen true w ≡ kept_item e (item_seen true v) = first_same seen in
-      let tail : map (item_seen true) ws ≡ map (λ v. kept_item e (item_seen true v)) vs = rest_same seen in
-      ((fit.0, kept_text shape e true w (item_seen true v) fit.0 head), each_kept e ws vs fit.1 tail)
+      search (rules, first_same, rest_same, kept_text, each_kept e ws vs fit.1)
 
   pub list_fits : (p : Presence) (e : Element) (vs ws : Vec Value Global) → ItemsFit shape p e (contents.Many vs) → AllByRecursion (ItemFits shape e) ws.items
       → map (item_seen true) ws.items ≡ map (λ v. kept_item e (item_seen true v)) vs.items → ContentFits shape p e (contents.Many ws)
-  list_fits presences.Implicit e vs ws items fit seen = absurd items
-  list_fits presences.Explicit e vs ws items fit seen = absurd items
-  list_fits (presences.Repeated packed) e vs ws items fit seen = each_kept e ws.items vs.items fit seen
-  list_fits (presences.Map key) e vs ws items fit seen = absurd items
+  list_fits p e vs ws items fit seen = grind (arith, each_kept)
 
   pub entries_kept : (key : Scalar) (e : Element) (ks fs : List (Value × Value)) → AllByRecursion (EntryFits shape key e) ks → map entry_seen ks ≡ map (entry_kept e) fs → AllByRecursion (EntryKept shape key e) ks
   entries_kept key e [] fs fit seen = tt
   entries_kept key e (k ∷ ks) [] fit seen = absurd (cc)
   entries_kept key e (k ∷ ks) (f ∷ fs) fit seen =
-      let head : entry_seen k ≡ entry_kept e f = first_same seen in
-      let tail : map entry_seen ks ≡ map (entry_kept e) fs = rest_same seen in
-      ((fit.0.0, (fit.0.1, kept_text shape e false k.1 (item_seen false f.1) fit.0.1 (ap (λ (x : Leaf × KeptItem). x.1) head))), entries_kept key e ks fs fit.1 tail)
+      search (rules, first_same, rest_same, kept_text, entries_kept key e ks fs fit.1)
 
   pub one_seen : (p : Presence) (e : Element) (v w : Value) (n : ℕ) → is_nothing p (contents.One v) ≡ false → item_seen false w ≡ kept_item e (item_seen false v)
       → content_seen n (contents.One w) ≡ map (kept_in e) (normalized_by p (content_seen n (contents.One v)))
-  one_seen presences.Implicit e v w n some seen =
-      ap (λ k. record { number = n; key = None; item = k } ∷ []) seen
-      ∙ ap (λ b. map (kept_in e) (cond (not b) (record { number = n; key = None; item = item_seen false v } ∷ []) [])) (sym (zero_seen false v ∙ some))
-  one_seen presences.Explicit e v w n some seen = ap (λ k. record { number = n; key = None; item = k } ∷ []) seen
-  one_seen (presences.Repeated packed) e v w n some seen = ap (λ k. record { number = n; key = None; item = k } ∷ []) seen
-  one_seen (presences.Map key) e v w n some seen = ap (λ k. record { number = n; key = None; item = k } ∷ []) seen
+  one_seen p e v w n some seen = grind (arith, zero_seen)
 
   pub list_seen : (p : Presence) (e : Element) (vs : Vec Value Global) (ws : List Value) (n : ℕ) → ItemsFit shape p e (contents.Many vs) → map (item_seen true) ws ≡ map (λ v. kept_item e (item_seen true v)) vs.items
       → map (λ v. record { number = n; key = None; item = item_seen true v }) ws ≡ map (kept_in e) (normalized_by p (content_seen n (contents.Many vs)))
@@ -172,10 +151,7 @@ map_seen e es fs ks alike once moved rise seen n =
 all_rise : (e : Element) (k : Leaf) (ks fs : List (Value × Value)) → map entry_seen ks ≡ map (entry_kept e) fs → AllByRecursion (λ (x : Value × Value). key_cmp k (leaf_of x.0) ≡ Less) fs → AllByRecursion (λ (x : Value × Value). key_cmp k (leaf_of x.0) ≡ Less) ks
 all_rise e k [] fs seen h = tt
 all_rise e k (x ∷ ks) [] seen h = absurd (cc)
-all_rise e k (x ∷ ks) (f ∷ fs) seen h =
-    let head : entry_seen x ≡ entry_kept e f = first_same seen in
-    let tail : map entry_seen ks ≡ map (entry_kept e) fs = rest_same seen in
-    (ap (λ (y : Leaf × KeptItem). key_cmp k y.0) head ∙ h.0, all_rise e k ks fs tail h.1)
+all_rise e k (x ∷ ks) (f ∷ fs) seen h = search (rules, first_same, rest_same, all_rise e k ks fs)
 
 pub keys_rise : (e : Element) (ks fs : List (Value × Value)) → map entry_seen ks ≡ map (entry_kept e) fs → KeysRise fs → KeysRise ks
 keys_rise e [] fs seen h = tt

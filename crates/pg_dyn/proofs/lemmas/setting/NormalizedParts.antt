@@ -1,28 +1,20 @@
 -- What is true of each part of a content is true of each that a field holds of it.
-use Rattle.std.proofs.Common.{List, [], ◌∷◌, Bool, true, false, not, cond}
+use Rattle.std.proofs.Common.{List, [], ◌∷◌, rules, arith}
 use Rattle.std.specs.List.{AllByRecursion}
 use Rattle.pg_schema.specs.declared.parts.field.Presence.{Presence}
-use Rattle.pg_schema.specs.declared.parts.field.Presence.TheVariants as presences
 use Rattle.pg_dyn.specs.message.KeptParts.{KeptItem}
 use Rattle.pg_dyn.specs.message.Message.{Part}
-use Rattle.pg_dyn.specs.setting.Setting.{by_rising_key, is_key_below, is_zero_kept, normalized_by, put_entry}
+use Rattle.pg_dyn.specs.setting.Setting.{by_rising_key, normalized_by, put_entry}
 use Rattle.pg_dyn.proofs.Lists.{each_filtered}
 
 module _ (P : Part KeptItem → Type 0) where
   put_each : (p : Part KeptItem) (ps : List (Part KeptItem)) → P p → AllByRecursion P ps → AllByRecursion P (put_entry p ps)
   put_each p [] one each = (one, tt)
-  put_each p (q ∷ qs) one each = of (is_key_below q.key p.key) (put_each p qs one each.1)
-    where
-      of : (b : Bool) → AllByRecursion P (put_entry p qs) → AllByRecursion P (cond b (q ∷ put_entry p qs) (p ∷ q ∷ qs))
-      of true rest = (each.0, rest)
-      of false rest = (one, each)
+  put_each p (q ∷ qs) one each = search (rules, put_each p qs one each.1)
 
   rising_each : (ps : List (Part KeptItem)) → AllByRecursion P ps → AllByRecursion P (by_rising_key ps)
   rising_each [] each = tt
   rising_each (p ∷ ps) each = put_each p (by_rising_key ps) each.0 (rising_each ps each.1)
 
   pub normalized_each : (presence : Presence) (ps : List (Part KeptItem)) → AllByRecursion P ps → AllByRecursion P (normalized_by presence ps)
-  normalized_each presences.Implicit ps each = each_filtered P (λ (p : Part KeptItem). not (is_zero_kept p.item)) ps each
-  normalized_each presences.Explicit ps each = each
-  normalized_each (presences.Repeated packed) ps each = each
-  normalized_each (presences.Map key) ps each = rising_each ps each
+  normalized_each presence ps each = grind (arith, each_filtered, rising_each)

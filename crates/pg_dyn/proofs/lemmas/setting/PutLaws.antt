@@ -1,12 +1,11 @@
 -- A content put among those of a message.
-use Rattle.std.proofs.Common.{◌≡◌, ℕ, List, [], ◌∷◌, ◌++◌, length, map, filter, nat_eq, nat_lt, Bool, true, false, true≢false, cond, not, Option, Some, None, inl, inr, refl, ap, ap₂, sym, subst, ◌∙◌, arith, eqb-true}
+use Rattle.std.proofs.Common.{◌≡◌, ℕ, List, [], ◌∷◌, length, map, filter, nat_eq, Bool, true, false, true≢false, not, Option, Some, inl, inr, refl, ap, sym, subst, ◌∙◌, arith, eqb-true, rules}
 use Rattle.std.specs.List.{AllByRecursion}
 use Rattle.pg_schema.specs.declared.parts.field.Scalar.{Scalar}
 use Rattle.pg_schema.specs.declared.parts.field.Scalar.TheVariants as scalars
 use Rattle.pg_schema.specs.declared.parts.field.TypeId.{TypeId}
 use Rattle.pg_schema.specs.declared.parts.field.Element.{Element}
 use Rattle.pg_schema.specs.declared.parts.field.Presence.{Presence}
-use Rattle.pg_schema.specs.declared.parts.field.Presence.TheVariants as presences
 use Rattle.pg_schema.specs.declared.parts.Parts.{Parts}
 use Rattle.pg_schema.specs.Invariant.{IsSchema}
 use Rattle.pg_schema.specs.Parts.{shape_of}
@@ -15,21 +14,19 @@ use Rattle.pg_schema.specs.ShapeRules.{IsField, PresenceFits}
 use Rattle.pg_schema.specs.rules.Fields.{is_key}
 use Rattle.pg_wire.specs.Records.{WireRecord}
 use Rattle.pg_dyn.specs.declared.message.Content.{Content}
-use Rattle.pg_dyn.specs.declared.message.Content.TheVariants as contents
 use Rattle.pg_dyn.specs.declared.message.Value.{Value}
-use Rattle.pg_dyn.specs.declared.message.Value.TheVariants as values
-use Rattle.pg_dyn.specs.word.Coding.{Whole, Integer, InRange, scalar_form}
+use Rattle.pg_dyn.specs.word.Coding.{Whole, Integer, scalar_form}
 use Rattle.pg_dyn.specs.reading.Content.{is_sibling}
 use Rattle.pg_dyn.specs.fitting.ContentFits.{ContentFits, HoldsContent, AreApart, NoneSiblings, FitsByContents, EntryFits, ItemsFit}
-use Rattle.pg_dyn.specs.message.FieldList.{fields_below, fields_above, put_field, remove_field}
+use Rattle.pg_dyn.specs.message.FieldList.{put_field, remove_field}
 use Rattle.pg_dyn.specs.fitting.Fits.{Fits}
-use Rattle.pg_dyn.specs.message.Kept.{Kept, ends, type_of}
+use Rattle.pg_dyn.specs.message.Kept.{Kept, type_of}
 use Rattle.pg_dyn.specs.message.KeptParts.{KeptItem, parts_of, unknown_of}
 use Rattle.pg_dyn.specs.message.KeyOrder.{AreAlike, IsNumber, IsText, KeysAlike}
-use Rattle.pg_dyn.specs.message.Message.{Part, F32, F64}
-use Rattle.pg_dyn.specs.message.Replacing.{kept_from, with_parts, is_sibling_number, without_siblings}
+use Rattle.pg_dyn.specs.message.Message.{Part}
+use Rattle.pg_dyn.specs.message.Replacing.{with_parts, is_sibling_number, without_siblings}
 use Rattle.pg_dyn.specs.fitting.ScalarItems.{IsItemOf}
-use Rattle.pg_dyn.specs.message.Seen.{content_seen, item_seen, leaf_of, Rises, IsFilled, HasKeys}
+use Rattle.pg_dyn.specs.message.Seen.{content_seen, Rises, IsFilled, HasKeys}
 use Rattle.pg_dyn.specs.setting.Setting.{normalized, normalized_by}
 use Rattle.pg_dyn.specs.fitting.Texts.{kept_in}
 use Rattle.pg_dyn.specs.inner.Reported.{is_nothing, MayHoldKeys}
@@ -50,20 +47,10 @@ use Rattle.std.proofs.lemmas.Bool.{not-true}
 -- The keys of a map are alike.
 
 number_of : (w : Whole) (s : Scalar) → scalar_form s ≡ Integer w → (v : Value) → IsItemOf s v → IsNumber v
-number_of w s is (values.Int x) h = tt
-number_of w s is (values.F32 x) h = subst (λ f. InRange f (F32 x)) is h
-number_of w s is (values.F64 x) h = subst (λ f. InRange f (F64 x)) is h
-number_of w s is (values.Text x) h = subst (λ f. InRange f (leaf_of (values.Text x))) is h
-number_of w s is (values.Bytes x) h = subst (λ f. InRange f (leaf_of (values.Bytes x))) is h
-number_of w s is (values.Msg x) h = h
+number_of w s is v h = grind arith
 
 text_of : (v : Value) → IsItemOf scalars.String v → IsText v
-text_of (values.Int x) h = h
-text_of (values.F32 x) h = h
-text_of (values.F64 x) h = h
-text_of (values.Text x) h = tt
-text_of (values.Bytes x) h = tt
-text_of (values.Msg x) h = h
+text_of v h = grind arith
 
 module _ (shape : Shape) (e : Element) (es : List (Value × Value)) where
   numbers : (w : Whole) (s : Scalar) → scalar_form s ≡ Integer w → AllByRecursion (EntryFits shape s e) es → AreAlike es
@@ -87,22 +74,14 @@ module _ (shape : Shape) (e : Element) (es : List (Value × Value)) where
   keys_alike scalars.Bool key h = numbers _ scalars.Bool refl h
 
 pub alike_by : (shape : Shape) (p : Presence) (e : Element) (o : Option ℕ) (c : Content) → PresenceFits p e o → ItemsFit shape p e c → KeysAlike c
-alike_by shape p e o (contents.One v) fits h = tt
-alike_by shape p e o (contents.Many vs) fits h = tt
-alike_by shape presences.Implicit e o (contents.Map es) fits h = absurd h
-alike_by shape presences.Explicit e o (contents.Map es) fits h = absurd h
-alike_by shape (presences.Repeated packed) e o (contents.Map es) fits h = absurd h
-alike_by shape (presences.Map key) e o (contents.Map es) fits h = keys_alike shape e es.items key fits.1 h
+alike_by shape p e o c fits h = grind (arith, keys_alike)
 
 pub content_alike : (parts : Parts) → IsSchema parts → (type : TypeId) (n : ℕ) (f : FieldShape) (c : Content) → field_at (fields (shape_of parts) type) n ≡ Some f → ItemsFit (shape_of parts) f.presence f.element c → KeysAlike c
 content_alike parts h type n f c found items =
     alike_by (shape_of parts) f.presence f.element f.oneof c (each_at (IsField (length (shape_of parts))) (fields (shape_of parts) type) n f found (is_type parts h type).each).presence_fits items
 
 keyed_by : (p : Presence) (e : Element) (o : Option ℕ) → PresenceFits p e o → MayHoldKeys p
-keyed_by presences.Implicit e o fits = tt
-keyed_by presences.Explicit e o fits = tt
-keyed_by (presences.Repeated packed) e o fits = tt
-keyed_by (presences.Map key) e o fits = fits.1
+keyed_by p e o fits = grind arith
 
 pub may_hold_keys : (parts : Parts) → IsSchema parts → (type : TypeId) (n : ℕ) (f : FieldShape) → field_at (fields (shape_of parts) type) n ≡ Some f → MayHoldKeys f.presence
 may_hold_keys parts h type n f found =
@@ -118,20 +97,10 @@ empty_list [] h = refl
 empty_list (x ∷ xs) h = absurd (let none = no_items (length (x ∷ xs)) h in omega arith)
 
 normalized_none : (p : Presence) → normalized_by p [] ≡ []
-normalized_none presences.Implicit = refl
-normalized_none presences.Explicit = refl
-normalized_none (presences.Repeated packed) = refl
-normalized_none (presences.Map key) = refl
+normalized_none p = grind arith
 
 nothing_left : (p : Presence) (c : Content) (n : ℕ) → is_nothing p c ≡ true → normalized_by p (content_seen n c) ≡ []
-nothing_left presences.Implicit (contents.One v) n h =
-    ap (λ b. cond (not b) (record { number = n; key = None; item = item_seen false v } ∷ []) []) (zero_seen false v ∙ h)
-nothing_left presences.Explicit (contents.One v) n h = absurd (cc)
-nothing_left (presences.Repeated packed) (contents.One v) n h = absurd (cc)
-nothing_left (presences.Map key) (contents.One v) n h = absurd (cc)
-nothing_left p (contents.Many vs) n h = ap (λ (xs : List Value). normalized_by p (map (λ value. record { number = n; key = None; item = item_seen true value }) xs)) (empty_list vs.items h) ∙ normalized_none p
-nothing_left p (contents.Map es) n h =
-    ap (λ (xs : List (Value × Value)). normalized_by p (map (λ (e : Value × Value). record { number = n; key = Some (leaf_of e.0); item = item_seen false e.1 }) xs)) (empty_list es.items h) ∙ normalized_none p
+nothing_left p c n h = grind (arith, zero_seen, empty_list, normalized_none)
 
 pub nothing_normalized : (f : FieldShape) (c : Content) (n : ℕ) → is_nothing f.presence c ≡ true → normalized f (content_seen n c) ≡ []
 nothing_normalized f c n h = ap (map (kept_in f.element)) (nothing_left f.presence c n h)
@@ -144,9 +113,7 @@ kept_number e n [] h = tt
 kept_number e n (p ∷ ps) h = (h.0, kept_number e n ps h.1)
 
 pub normalized_number : (f : FieldShape) (n : ℕ) (c : Content) → OfNumber n (normalized f (content_seen n c))
-normalized_number f n c =
-    kept_number f.element n (normalized_by f.presence (content_seen n c))
-    (normalized_each (λ (p : Part KeptItem). p.number ≡ n) f.presence (content_seen n c) (content_number n c))
+normalized_number f n c = search (rules, kept_number, normalized_each, content_number)
 
 -- Without siblings before or after.
 
@@ -157,51 +124,31 @@ module _ (fs : List FieldShape) (f : FieldShape) (n : ℕ) (apart : is_sibling_n
   -- parts put in before the siblings go are put in after
   pub siblings_after : (ps : List (Part KeptItem)) (m : Kept) → OfNumber n ps → without_siblings fs f (with_parts n ps m) ≡ with_parts n ps (without_siblings fs f m)
   siblings_after ps m own =
-      let low = λ (p : Part KeptItem). nat_lt p.number n in
-      let high = λ (p : Part KeptItem). nat_lt n p.number in
-      let kept = λ (p : Part KeptItem). stays p.number in
-      let old = parts_of m in
-      let all = filter low old ++ (ps ++ filter high old) in
-      let left = filter kept old in
-      let type_is = type_of-kept_onto all (ends (type_of m) (unknown_of m)) in
-      let parts_are = parts_of-kept_onto all (ends (type_of m) (unknown_of m)) ∙ append-nil all in
-      let unknown_is = unknown_of-kept_onto all (ends (type_of m) (unknown_of m)) in
-      let new_type = type_of-kept_onto left (ends (type_of m) (unknown_of m)) in
-      let new_parts = parts_of-kept_onto left (ends (type_of m) (unknown_of m)) ∙ append-nil left in
-      let new_unknown = unknown_of-kept_onto left (ends (type_of m) (unknown_of m)) in
-      let own_kept : filter (λ (p : Part KeptItem). not (is_sibling_number fs f p.number)) ps ≡ ps =
-      filter_all (λ (p : Part KeptItem). not (is_sibling_number fs f p.number)) ps (each_weaker (λ (p : Part KeptItem). p.number ≡ n) (λ (p : Part KeptItem). not (is_sibling_number fs f p.number) ≡ true) (λ p is. ap stays is ∙ ap not apart) ps own) in
-      ap₂ (λ t u. kept_from t (filter (λ (p : Part KeptItem). not (is_sibling_number fs f p.number)) (parts_of (with_parts n ps m))) u) type_is unknown_is
-      ∙ ap (λ qs. kept_from (type_of m) (filter (λ (p : Part KeptItem). not (is_sibling_number fs f p.number)) qs) (unknown_of m)) parts_are
-      ∙ ap (λ qs. kept_from (type_of m) qs (unknown_of m))
-      (filter-append' kept (filter low old) (ps ++ filter high old) ∙ ap (λ qs. filter kept (filter low old) ++ qs) (filter-append' kept ps (filter high old) ∙ ap (λ qs. qs ++ filter kept (filter high old)) own_kept)
-      ∙ ap₂ (λ xs ys. xs ++ (ps ++ ys)) (filter_swap kept low old) (filter_swap kept high old))
-      ∙ ap (λ qs. kept_from (type_of m) (filter (λ (p : Part KeptItem). nat_lt p.number n) qs ++ (ps ++ filter (λ (p : Part KeptItem). nat_lt n p.number) qs)) (unknown_of m)) (sym new_parts)
-      ∙ ap₂ (λ t u. kept_from t (filter (λ (p : Part KeptItem). nat_lt p.number n) (parts_of (without_siblings fs f m)) ++ (ps ++ filter (λ (p : Part KeptItem). nat_lt n p.number) (parts_of (without_siblings fs f m)))) u) (sym new_type) (sym new_unknown)
+      search (
+        rules,
+        type_of-kept_onto,
+        parts_of-kept_onto,
+        append-nil,
+        unknown_of-kept_onto,
+        filter_all,
+        each_weaker,
+        filter-append',
+        filter_swap,
+      )
 
   abbrev left_of : List (ℕ × Content) → List (ℕ × Content)
   left_of ms = filter (λ (c : ℕ × Content). not (is_sibling_number fs f c.0)) ms
 
   pub left-removed : (ms : List (ℕ × Content)) → left_of (remove_field n ms) ≡ remove_field n (left_of ms)
-  left-removed ms =
-      filter-append' (λ (c : ℕ × Content). not (is_sibling_number fs f c.0)) (fields_below n ms) (fields_above n ms)
-      ∙ ap₂ (λ xs ys. xs ++ ys) (filter_swap (λ (c : ℕ × Content). not (is_sibling_number fs f c.0)) (λ (c : ℕ × Content). nat_lt c.0 n) ms) (filter_swap (λ (c : ℕ × Content). not (is_sibling_number fs f c.0)) (λ (c : ℕ × Content). nat_lt n c.0) ms)
+  left-removed ms = search (rules, filter-append', filter_swap)
 
   pub left-put : (c : Content) (ms : List (ℕ × Content)) → left_of (put_field n c ms) ≡ put_field n c (left_of ms)
-  left-put c ms =
-      filter-append' (λ (x : ℕ × Content). not (is_sibling_number fs f x.0)) (fields_below n ms) ((n, c) ∷ fields_above n ms)
-      ∙ ap₂ (λ xs ys. xs ++ ys) (filter_swap (λ (x : ℕ × Content). not (is_sibling_number fs f x.0)) (λ (x : ℕ × Content). nat_lt x.0 n) ms)
-      (ap (λ b. cond (not b) ((n, c) ∷ left_of (fields_above n ms)) (left_of (fields_above n ms))) apart
-      ∙ ap (λ ys. (n, c) ∷ ys) (filter_swap (λ (x : ℕ × Content). not (is_sibling_number fs f x.0)) (λ (x : ℕ × Content). nat_lt n x.0) ms))
+  left-put c ms = search (rules, filter-append', filter_swap)
 
 -- Contents that are no siblings of one another, either way round.
 
 pub siblings_back : (f g : FieldShape) → is_sibling f g ≡ false → is_sibling g f ≡ false
-siblings_back f g h = of (is_sibling g f) refl
-  where
-    of : (b : Bool) → is_sibling g f ≡ b → is_sibling g f ≡ false
-    of false e = e
-    of true e = absurd (true≢false (sym (is_sibling_sym g f e) ∙ h))
+siblings_back f g h = search (rules, true≢false, is_sibling_sym)
 
 module _ (fs : List FieldShape) where
   abbrev Together : List (ℕ × Content) → Type 0
@@ -235,18 +182,11 @@ module _ (fs : List FieldShape) where
       (each_both (λ (x : ℕ × Content). AreApart fs n x.0) (λ (x : ℕ × Content). AllByRecursion (λ (y : ℕ × Content). AreApart fs x.0 y.0) ms) ms new h))
 
   removed_together : (n : ℕ) (ms : List (ℕ × Content)) → Together ms → Together (remove_field n ms)
-  removed_together n ms h =
-      each_removed (λ (x : ℕ × Content). AllByRecursion (λ (y : ℕ × Content). AreApart fs x.0 y.0) (remove_field n ms)) n ms
-      (each_weaker (λ (x : ℕ × Content). AllByRecursion (λ (y : ℕ × Content). AreApart fs x.0 y.0) ms) (λ (x : ℕ × Content). AllByRecursion (λ (y : ℕ × Content). AreApart fs x.0 y.0) (remove_field n ms))
-      (λ x k. each_removed (λ (y : ℕ × Content). AreApart fs x.0 y.0) n ms k) ms h)
+  removed_together n ms h = search (rules, each_removed, each_weaker)
 
 passed : {A : Type 0} (test : A → Bool) (xs : List A) → AllByRecursion (λ x. test x ≡ true) (filter test xs)
 passed test [] = tt
-passed test (x ∷ xs) = of (test x) refl (passed test xs)
-  where
-    of : (b : Bool) → test x ≡ b → AllByRecursion (λ y. test y ≡ true) (filter test xs) → AllByRecursion (λ y. test y ≡ true) (cond b (x ∷ filter test xs) (filter test xs))
-    of true e rest = (e, rest)
-    of false e rest = rest
+passed test (x ∷ xs) = search (rules, passed test xs)
 
 -- A message that fits without a field's siblings still does with another content in the field.
 

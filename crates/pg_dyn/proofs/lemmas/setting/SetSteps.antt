@@ -1,5 +1,5 @@
 -- What setting a content does.
-use Rattle.std.proofs.Common.{◌≡◌, ℕ, List, map, nat_eq, not, ◌&&◌, false, Option, Some, None, IfSome, ap, sym, subst, ◌∙◌, ⊎_elim, eq-eqb, ne_eqb}
+use Rattle.std.proofs.Common.{◌≡◌, ℕ, List, map, false, Option, Some, IfSome, ap, sym, subst, ◌∙◌, eq-eqb, ne_eqb, rules, arith}
 use Rattle.std.specs.List.{AllByRecursion}
 use Rattle.std.proofs.lemmas.Bool.{cases_eq}
 use Rattle.std.proofs.Math.Bool.{and-false}
@@ -16,8 +16,7 @@ use Rattle.pg_dyn.specs.message.Kept.{Kept, type_of}
 use Rattle.pg_dyn.specs.message.KeptParts.{KeptItem}
 use Rattle.pg_dyn.specs.message.Message.{Part}
 use Rattle.pg_dyn.specs.message.Seen.{content_seen, kept_seen, record_seen}
-use Rattle.pg_dyn.specs.reading.Content.{is_sibling, same_oneof}
-use Rattle.pg_dyn.specs.message.Replacing.{is_sibling_number, with_parts, with_content, without_siblings}
+use Rattle.pg_dyn.specs.message.Replacing.{is_sibling_number, with_parts, without_siblings}
 use Rattle.pg_dyn.specs.setting.ContentFaults.{ContentFault, IsLowest, MayRefuseFor}
 use Rattle.pg_dyn.specs.setting.Setting.{normalized, IsSetTo}
 use Rattle.pg_dyn.proofs.lemmas.message.ReplacingLaws.{type_shown}
@@ -27,16 +26,7 @@ use Rattle.pg_dyn.proofs.lemmas.reading.records.Splitting.{found_number}
 
 -- the lowest fault may be reported
 pub may_refuse : (F : DynError → Type 0) (e : DynError) → IsLowest F e → MayRefuseFor F e
-may_refuse F errors.Memory h = tt
-may_refuse F errors.NoSuchField h = h
-may_refuse F errors.WrongKind h = h
-may_refuse F errors.OutOfRange h = h
-may_refuse F (errors.NotUtf8 at) h = h
-may_refuse F errors.OneofTwice h = h
-may_refuse F errors.DuplicateKey h = h
-may_refuse F errors.TooLong h = h
-may_refuse F (errors.TooDeep at) h = h
-may_refuse F (errors.Wire w) h = h
+may_refuse k e h = grind arith
 
 -- memory is never the fault of a content
 pub no_memory : (parts : Parts) (type : TypeId) (n : ℕ) (c : Content) (e : DynError) → e ≡ errors.Memory → IsLowest (ContentFault (shape_of parts) type n c) e → ⊥
@@ -58,32 +48,20 @@ by_own_number fs n f found = ap (field_at fs) (found_number fs n f found) ∙ fo
 module _ (parts : Parts) (h : IsSchema parts) (n : ℕ) (c : Content) (f : FieldShape) where
   pub set_to : (m put new : Kept) → field_at (fields (shape_of parts) (type_of m)) n ≡ Some f → put ≡ with_parts f.number (normalized f (content_seen f.number c)) m → new ≡ without_siblings (fields (shape_of parts) (type_of m)) f put → IsSetTo (shape_of parts) n c m new
   set_to m put new there is_put is_new =
-      let fs = fields (shape_of parts) (type_of m) in
-      let number = found_number fs n f there in
-      let found = by_own_number fs n f there in
-      let ps = normalized f (content_seen f.number c) in (
-        f,
-        there,
-        is_new ∙ ap (without_siblings fs f) is_put
-            ∙ siblings_after fs f f.number (no_self_sibling parts h (type_of m) f f.number found) ps m (normalized_number f f.number c)
-            ∙ ap (λ k. with_content (fields (shape_of parts) (type_of m)) f (normalized f (content_seen k c)) m) number,
+      search (
+        rules,
+        found_number,
+        by_own_number,
+        siblings_after,
+        no_self_sibling,
+        normalized_number,
       )
 
 -- Which other members are looked for makes no difference after a content of the field is put in, if it made none before.
 
 own_apart : (gs : List FieldShape) (f : FieldShape) → is_sibling_number gs f f.number ≡ false
-own_apart gs f = list_any_none (λ (g : FieldShape). is_sibling f g && nat_eq g.number f.number) gs (each_of_all (λ (g : FieldShape). (is_sibling f g && nat_eq g.number f.number) ≡ false) one gs)
-  where
-    one : (g : FieldShape) → (is_sibling f g && nat_eq g.number f.number) ≡ false
-    one g =
-        ⊎_elim
-        (λ same. ap (λ b. (same_oneof f.oneof g.oneof && not b) && nat_eq g.number f.number) (eq-eqb f.number g.number same) ∙ ap (λ b. b && nat_eq g.number f.number) (and-false (same_oneof f.oneof g.oneof)))
-        (λ other. ap (λ b. is_sibling f g && b) (ne_eqb g.number f.number (λ e. other (sym e))) ∙ and-false (is_sibling f g))
-        (cases_eq f.number g.number)
+own_apart gs f = search (rules, list_any_none, each_of_all, eq-eqb, and-false, ne_eqb, cases_eq)
 
 pub members_after : {X : Type 0} (gs : X → List FieldShape) (fs : List FieldShape) (f : FieldShape) (ps : List (Part KeptItem)) (m put : Kept) → put ≡ with_parts f.number ps m → AllByRecursion (λ (p : Part KeptItem). p.number ≡ f.number) ps
     → (o : Option X) → IfSome o (λ x. without_siblings (gs x) f m ≡ without_siblings fs f m) → IfSome o (λ x. without_siblings (gs x) f put ≡ without_siblings fs f put)
-members_after gs fs f ps m put is own None h = tt
-members_after gs fs f ps m put is own (Some x) h =
-    ap (without_siblings (gs x) f) is ∙ siblings_after (gs x) f f.number (own_apart (gs x) f) ps m own ∙ ap (with_parts f.number ps) h
-    ∙ sym (siblings_after fs f f.number (own_apart fs f) ps m own) ∙ sym (ap (without_siblings fs f) is)
+members_after gs fs f ps m put is own o h = grind (arith, siblings_after, own_apart)

@@ -1,5 +1,5 @@
 -- Which faults of a row of contents may be reported.
-use Rattle.std.proofs.Common.{◌≡◌, ℕ, option_and_then, ◌<◌, ◌≤◌, List, [], ◌∷◌, length, filter, flat_map, nat_eq, Bool, true, false, cond, not, ◌&&◌, Option, Some, None, inl, inr, refl, ap, subst, ◌∙◌, arith, eq-eqb, ne_eqb}
+use Rattle.std.proofs.Common.{◌≡◌, ℕ, option_and_then, ◌<◌, ◌≤◌, List, [], ◌∷◌, length, filter, Bool, true, false, ◌&&◌, Option, Some, inl, inr, refl, ap, subst, ◌∙◌, arith, eq-eqb, ne_eqb, rules, nat_eq, cond}
 use Rattle.std.specs.List.{AllByRecursion}
 use Rattle.std.proofs.lemmas.Bool.{eqb-true}
 use Rattle.pg_schema.specs.declared.parts.field.TypeId.{TypeId}
@@ -9,13 +9,13 @@ use Rattle.pg_schema.specs.Shape.{FieldShape, fields, field_at}
 use Rattle.pg_dyn.specs.declared.error.DynError.{DynError}
 use Rattle.pg_dyn.specs.declared.error.DynError.TheVariants as errors
 use Rattle.pg_dyn.specs.declared.message.Content.{Content}
-use Rattle.pg_dyn.specs.reading.Content.{same_oneof, is_sibling}
+use Rattle.pg_dyn.specs.reading.Content.{same_oneof}
 use Rattle.pg_dyn.specs.message.Kept.{Kept}
 use Rattle.pg_dyn.specs.message.Seen.{Rises}
 use Rattle.pg_dyn.specs.fitting.ContentFits.{AreApart, NoneSiblings}
 use Rattle.pg_dyn.specs.setting.ContentFaults.{AnyOf, ContentFault, ContentsFault, FirstOf, HasFieldTwice, HasKeyTwice, is_in_oneof, members, IsLowest, HasNoEarlyFault, HasNoFault, MayRefuseFor}
 use Rattle.pg_dyn.specs.error.Codes.{code_of}
-use Rattle.pg_dyn.specs.setting.Setting.{normalized_parts, IsWhole}
+use Rattle.pg_dyn.specs.setting.Setting.{IsWhole}
 use Rattle.pg_dyn.specs.inner.Reported.{TakesContent}
 use Rattle.pg_dyn.proofs.Lists.{filter_none, each_weaker, each_both}
 use Rattle.pg_dyn.proofs.lemmas.setting.ContentChecks.{lowest, taken_once, takes_early}
@@ -39,9 +39,7 @@ rising_once (x ∷ xs) n h = of (nat_eq x.0 n) refl (rising_once xs n h.1)
 -- Members of one oneof.
 
 pub same_some : (a b : Option ℕ) → same_oneof a b ≡ true → (o : ℕ) × (a ≡ Some o) × (b ≡ Some o)
-same_some (Some a) (Some b) h = (b, ap Some (eqb-true a b h), refl)
-same_some (Some a) None h = absurd (cc)
-same_some None b h = absurd (cc)
+same_some a b h = grind (arith, eqb-true)
 
 first_true : (a b : Bool) → (a && b) ≡ true → a ≡ true
 first_true true b h = refl
@@ -52,30 +50,14 @@ module _ (fs : List FieldShape) where
   member_of n o f found is = ap (λ (x : Option FieldShape). same_oneof (option_and_then (λ (g : FieldShape). g.oneof) x) (Some o)) found ∙ ap (λ (x : Option ℕ). same_oneof x (Some o)) is ∙ eq-eqb o o refl
 
   two_of : (o : ℕ) (c : ℕ × Content) (cs : List (ℕ × Content)) → is_in_oneof fs o c.0 ≡ true → 0 < length (members fs o cs) → 1 < length (members fs o (c ∷ cs))
-  two_of o c cs first some = of (is_in_oneof fs o c.0) first
-    where
-      of : (b : Bool) → b ≡ true → 1 < length (cond b (c ∷ members fs o cs) (members fs o cs))
-      of true e = omega (arith, some)
-      of false e = absurd (cc)
+  two_of o c cs first some = search (rules, arith)
 
   fewer : (o : ℕ) (c : ℕ × Content) (cs : List (ℕ × Content)) → length (members fs o (c ∷ cs)) ≤ 1 → length (members fs o cs) ≤ 1
-  fewer o c cs one = of (is_in_oneof fs o c.0) one
-    where
-      of : (b : Bool) → length (cond b (c ∷ members fs o cs) (members fs o cs)) ≤ 1 → length (members fs o cs) ≤ 1
-      of true k = omega arith
-      of false k = k
+  fewer o c cs one = search (rules, arith)
 
   apart_from : (c l : ℕ × Content) (cs : List (ℕ × Content)) → ((o : ℕ) → length (members fs o (c ∷ cs)) ≤ 1) → StandsIn l cs → AreApart fs c.0 l.0
-  apart_from c l cs once there f g found at = of (is_sibling f g) refl
-    where
-      of : (b : Bool) → is_sibling f g ≡ b → is_sibling f g ≡ false
-      of false e = e
-      of true e =
-          let (o, is_f, is_g) = same_some f.oneof g.oneof (first_true (same_oneof f.oneof g.oneof) (not (nat_eq f.number g.number)) e) in
-          let some = passes_once (λ (x : ℕ × Content). is_in_oneof fs o x.0) l cs there (member_of l.0 o g at is_g) in
-          let many = two_of o c cs (member_of c.0 o f found is_f) some in
-          let few = once o in
-          absurd (omega (arith, many, few))
+  apart_from c l cs once there f g found at =
+      search (rules, arith, same_some, first_true, passes_once, member_of, two_of)
 
   -- contents of which no two are in one oneof are no siblings
   pub no_siblings_from : (cs : List (ℕ × Content)) → ((o : ℕ) → length (members fs o cs) ≤ 1) → NoneSiblings fs cs
@@ -157,28 +139,10 @@ module _ (parts : Parts) (type : TypeId) where
       below (errors.Wire w) low k = never (errors.Wire w) (λ c h. h.2) cs k
 
   to_faults : (cs : List (ℕ × Content)) (e : DynError) → code_of e < 605 → FirstContent cs e → Faults cs e
-  to_faults cs errors.Memory early k = k
-  to_faults cs errors.NoSuchField early k = k
-  to_faults cs errors.WrongKind early k = k
-  to_faults cs errors.OutOfRange early k = k
-  to_faults cs (errors.NotUtf8 at) early k = k
-  to_faults cs errors.OneofTwice early k = absurd (omega arith)
-  to_faults cs errors.DuplicateKey early k = absurd (omega arith)
-  to_faults cs errors.TooLong early k = k
-  to_faults cs (errors.TooDeep at) early k = k
-  to_faults cs (errors.Wire w) early k = k
+  to_faults cs e early k = grind arith
 
   from_faults : (cs : List (ℕ × Content)) (e : DynError) → code_of e < 605 → Faults cs e → FirstContent cs e
-  from_faults cs errors.Memory early k = k
-  from_faults cs errors.NoSuchField early k = k
-  from_faults cs errors.WrongKind early k = k
-  from_faults cs errors.OutOfRange early k = k
-  from_faults cs (errors.NotUtf8 at) early k = k
-  from_faults cs errors.OneofTwice early k = absurd (omega arith)
-  from_faults cs errors.DuplicateKey early k = absurd (omega arith)
-  from_faults cs errors.TooLong early k = k
-  from_faults cs (errors.TooDeep at) early k = k
-  from_faults cs (errors.Wire w) early k = k
+  from_faults cs e early k = grind arith
 
   pub whole_early : (cs : List (ℕ × Content)) → Takes parts type cs → HasNoEarlyFault (Faults cs)
   whole_early cs takes e low k = early cs takes e low (from_faults cs e low k)
@@ -188,16 +152,11 @@ module _ (parts : Parts) (type : TypeId) where
   whole_no_memory cs e is lowest = never errors.Memory (λ c k. k.2) cs (subst (FirstContent cs) is lowest.0)
 
   pub whole_refused : (cs : List (ℕ × Content)) (e : DynError) → IsLowest (FirstContent cs) e → code_of e < 605 → MayRefuseFor (Faults cs) e
-  whole_refused cs e fault early =
-      may_refuse (Faults cs) e (to_faults cs e early fault.0, λ other low k. let lt : code_of other < 605 = omega arith in fault.1 other low (from_faults cs other lt k))
+  whole_refused cs e fault early = search (rules, arith, may_refuse, to_faults, early, from_faults)
 
   -- the message of sorted contents is that of the contents
   pub whole_unsorted : (xs ys : List (ℕ × Content)) (m : Kept) → ((number : ℕ) → filter (of_field number) ys ≡ filter (of_field number) xs) → IsWhole (shape_of parts) type ys m → IsWhole (shape_of parts) type xs m
-  whole_unsorted xs ys m same whole = record {
-    of_type = whole.of_type;
-    contents = λ number. whole.contents number ∙ ap (flat_map (normalized_parts (fields (shape_of parts) type))) (same number);
-    no_unknown = whole.no_unknown;
-  }
+  whole_unsorted xs ys m same whole = search rules
 
   pub once_unsorted : (xs ys : List (ℕ × Content)) → ((number : ℕ) → filter (of_field number) ys ≡ filter (of_field number) xs) → Rises ys → (n : ℕ) → length (filter (of_field n) xs) ≤ 1
   once_unsorted xs ys same rises n = let one = rising_once ys n rises in let len = ap length (same n) in omega arith

@@ -1,5 +1,5 @@
 -- Contents by rising numbers, put into a message one after the other.
-use Rattle.std.proofs.Common.{◌≡◌, ◌≢◌, ℕ, pos, zero, suc, ◌<◌, ◌≤◌, List, [], ◌∷◌, ◌++◌, length, filter, flat_map, get_or, nat_eq, nat_lt, Bool, true, false, true≢false, cond, not, ◌&&◌, Option, Some, None, ⊎_elim, refl, ap, ap₂, sym, subst, ◌∙◌, arith, eq-eqb, ne_eqb, lt-ltb, le-ltb}
+use Rattle.std.proofs.Common.{◌≡◌, ◌≢◌, ℕ, pos, zero, suc, ◌<◌, ◌≤◌, List, [], ◌∷◌, ◌++◌, length, filter, flat_map, get_or, nat_eq, nat_lt, Bool, true, false, true≢false, cond, not, Some, ⊎_elim, refl, ap, ap₂, sym, subst, ◌∙◌, arith, eq-eqb, ne_eqb, lt-ltb, le-ltb, rules}
 use Rattle.std.specs.List.{AllByRecursion}
 use Rattle.std.specs.List.Sorted.{IsNonDecreasingBy, IsStableByKey, ties}
 use Rattle.std.specs.Ordering.{is_lt, nat_cmp}
@@ -20,7 +20,7 @@ use Rattle.pg_dyn.specs.message.Kept.{Kept, type_of, ends}
 use Rattle.pg_dyn.specs.message.KeptParts.{KeptItem, parts_of, unknown_of, of_number}
 use Rattle.pg_dyn.specs.message.Seen.{content_seen, Rises}
 use Rattle.pg_dyn.specs.fitting.Fits.{Fits}
-use Rattle.pg_dyn.specs.message.Replacing.{kept_from, with_parts, is_sibling_number, without_siblings}
+use Rattle.pg_dyn.specs.message.Replacing.{with_parts, is_sibling_number, without_siblings}
 use Rattle.pg_dyn.specs.fitting.ContentFits.{AreApart, NoneSiblings}
 use Rattle.pg_dyn.specs.setting.ContentFaults.{PassTwice}
 use Rattle.pg_dyn.specs.setting.Setting.{normalized, normalized_parts, IsWhole}
@@ -38,29 +38,17 @@ use Rattle.pg_dyn.proofs.lemmas.setting.WithoutSiblings.{sibling_found}
 module _ {A : Type 0} (t u : A → Bool) where
   filter_within : ((x : A) → t x ≡ true → u x ≡ true) → (xs : List A) → filter t (filter u xs) ≡ filter t xs
   filter_within h [] = refl
-  filter_within h (x ∷ xs) = of (u x) (t x) refl refl (filter_within h xs)
-    where
-      of : (b d : Bool) → u x ≡ b → t x ≡ d → filter t (filter u xs) ≡ filter t xs → filter t (cond b (x ∷ filter u xs) (filter u xs)) ≡ cond d (x ∷ filter t xs) (filter t xs)
-      of true true ux tx rest = ap (λ b. cond b (x ∷ filter t (filter u xs)) (filter t (filter u xs))) tx ∙ ap (λ ys. x ∷ ys) rest
-      of true false ux tx rest = ap (λ b. cond b (x ∷ filter t (filter u xs)) (filter t (filter u xs))) tx ∙ rest
-      of false true ux tx rest = absurd (true≢false (sym (h x tx) ∙ ux))
-      of false false ux tx rest = rest
+  filter_within h (x ∷ xs) = search (rules, filter_within h xs, true≢false)
 
   filter_apart : ((x : A) → t x ≡ true → u x ≡ false) → (xs : List A) → filter t (filter u xs) ≡ []
   filter_apart h [] = refl
-  filter_apart h (x ∷ xs) = of (u x) (t x) refl refl (filter_apart h xs)
-    where
-      of : (b d : Bool) → u x ≡ b → t x ≡ d → filter t (filter u xs) ≡ [] → filter t (cond b (x ∷ filter u xs) (filter u xs)) ≡ []
-      of true true ux tx rest = absurd (true≢false (sym ux ∙ h x tx))
-      of true false ux tx rest = ap (λ b. cond b (x ∷ filter t (filter u xs)) (filter t (filter u xs))) tx ∙ rest
-      of false d ux tx rest = rest
+  filter_apart h (x ∷ xs) = search (rules, filter_apart h xs, true≢false)
 
 -- What is under each number, with other parts under one of them.
 
 parts_with : (n : ℕ) (ps : List (Part KeptItem)) (m : Kept)
     → parts_of (with_parts n ps m) ≡ filter (λ (p : Part KeptItem). nat_lt p.number n) (parts_of m) ++ (ps ++ filter (λ (p : Part KeptItem). nat_lt n p.number) (parts_of m))
-parts_with n ps m =
-    parts_of-kept_onto (filter (λ (p : Part KeptItem). nat_lt p.number n) (parts_of m) ++ (ps ++ filter (λ (p : Part KeptItem). nat_lt n p.number) (parts_of m))) (ends (type_of m) (unknown_of m)) ∙ append-nil _
+parts_with n ps m = search (rules, parts_of-kept_onto, append-nil)
 
 unknown_with : (n : ℕ) (ps : List (Part KeptItem)) (m : Kept) → unknown_of (with_parts n ps m) ≡ unknown_of m
 unknown_with n ps m = unknown_of-kept_onto (filter (λ (p : Part KeptItem). nat_lt p.number n) (parts_of m) ++ (ps ++ filter (λ (p : Part KeptItem). nat_lt n p.number) (parts_of m))) (ends (type_of m) (unknown_of m))
@@ -122,17 +110,10 @@ module _ (parts : Parts) (type : TypeId) where
   under_more number xs x = ap (flat_map (normalized_parts fs)) (filter-append' (of_field number) xs (x ∷ [])) ∙ flat_map-append' (normalized_parts fs) (filter (of_field number) xs) (filter (of_field number) (x ∷ []))
 
   under_none : (number : ℕ) (xs : List (ℕ × Content)) → AllByRecursion (λ (c : ℕ × Content). c.0 < number) xs → under number xs ≡ []
-  under_none number xs below =
-      ap (flat_map (normalized_parts fs))
-      (filter_none (of_field number) xs (each_weaker (λ (c : ℕ × Content). c.0 < number) (λ (c : ℕ × Content). of_field number c ≡ false) (λ c lt. ne_eqb c.0 number (λ e. absurd (omega arith))) xs below))
+  under_none number xs below = search (rules, arith, filter_none, each_weaker, ne_eqb)
 
   under_one : (n : ℕ) (c : Content) (f : FieldShape) → field_at fs n ≡ Some f → under n ((n, c) ∷ []) ≡ normalized f (content_seen n c)
-  under_one n c f found =
-      ap (λ b. flat_map (normalized_parts fs) (cond b ((n, c) ∷ []) [])) (eq-eqb n n refl) ∙ append-nil _ ∙ ap (parts_at n c) found
-    where
-      parts_at : (k : ℕ) (d : Content) → Option FieldShape → List (Part KeptItem)
-      parts_at k d (Some g) = normalized g (content_seen k d)
-      parts_at k d None = []
+  under_one n c f found = search (rules, eq-eqb, append-nil)
 
   under_apart : (j n : ℕ) (c : Content) → j ≢ n → under j ((n, c) ∷ []) ≡ []
   under_apart j n c apart = ap (λ b. flat_map (normalized_parts fs) (cond b ((n, c) ∷ []) [])) (ne_eqb n j (λ e. apart (sym e)))
@@ -166,8 +147,7 @@ module _ (parts : Parts) (type : TypeId) where
           absurd (omega (arith, some, ap length empty))
 
   without_same : (f : FieldShape) (m : Kept) → AllByRecursion (λ (p : Part KeptItem). not (is_sibling_number (fields (shape_of parts) type) f p.number) ≡ true) (parts_of m) → without_siblings (fields (shape_of parts) type) f m ≡ m
-  without_same f m each =
-      ap (λ ps. kept_from (type_of m) ps (unknown_of m)) (filter_all (λ (p : Part KeptItem). not (is_sibling_number (fields (shape_of parts) type) f p.number)) (parts_of m) each) ∙ kept_whole m
+  without_same f m each = search (rules, filter_all, kept_whole)
 
   abbrev pub Takes : List (ℕ × Content) → Type 0
   Takes cs = AllByRecursion (TakesContent (shape_of parts) type) cs
@@ -221,14 +201,9 @@ fact_of_next P (z ∷ xs) ys x h = fact_of_next P xs ys x h.1
 pub pass_twice : (test : ℕ × Content → Bool) (xs : List (ℕ × Content)) (k : ℕ) (d e : ℕ × Content) → suc k < length xs → test (get_or xs k d) ≡ true → test (get_or xs (suc k) e) ≡ true → PassTwice test xs
 pass_twice test [] k d e inside one two = absurd (omega arith)
 pass_twice test (x ∷ []) k d e inside one two = absurd (omega arith)
-pass_twice test (x ∷ y ∷ xs) zero d e inside one two =
-    let all : filter test (x ∷ y ∷ xs) ≡ x ∷ y ∷ filter test xs = ap (λ b. cond b (x ∷ filter test (y ∷ xs)) (filter test (y ∷ xs))) one ∙ ap (λ b. x ∷ cond b (y ∷ filter test xs) (filter test xs)) two in
-    omega (arith, ap length all)
-pass_twice test (x ∷ y ∷ xs) (suc k) d e inside one two = more (test x) (pass_twice test (y ∷ xs) k d e (omega arith) one two)
-  where
-    more : (b : Bool) → 1 < length (filter test (y ∷ xs)) → 1 < length (cond b (x ∷ filter test (y ∷ xs)) (filter test (y ∷ xs)))
-    more true h = omega arith
-    more false h = h
+pass_twice test (x ∷ y ∷ xs) zero d e inside one two = search (rules, arith)
+pass_twice test (x ∷ y ∷ xs) (suc k) d e inside one two =
+    search (rules, arith, pass_twice test (y ∷ xs) k d e)
 
 -- numbers that don't fall rise, where no two neighbours are equal
 pub rises_from : (gs : List (ℕ × Content)) → IsNonDecreasingBy (λ (c : ℕ × Content). c.0) gs → ((k : ℕ) (d : ℕ × Content) → suc k < length gs → (get_or gs k d).0 ≢ (get_or gs (suc k) d).0) → Rises gs
@@ -255,17 +230,7 @@ not_less : (a b : ℕ) → b ≤ a → is_lt (nat_cmp a b) ≡ false
 not_less a b le = ⊎_elim (λ same. ap is_lt (sym (nat_cmp_is a b Equal same))) (λ apart. ap is_lt (sym (nat_cmp_is a b Greater (let lt : b < a = omega (arith, apart) in lt)))) (cases_eq a b)
 
 tied : (n : ℕ) (c d : Content) (y : ℕ) → ties (λ (a : ℕ × Content) (b : ℕ × Content). is_lt (nat_cmp a.0 b.0)) (n, c) (y, d) ≡ nat_eq y n
-tied n c d y = ⊎_elim same other (cases_eq y n)
-  where
-    same : y ≡ n → ties (λ (a : ℕ × Content) (b : ℕ × Content). is_lt (nat_cmp a.0 b.0)) (n, c) (y, d) ≡ nat_eq y n
-    same e = ap₂ (λ a b. not a && not b) (not_less n y (omega arith)) (not_less y n (omega arith)) ∙ sym (eq-eqb y n e)
-
-    other : y ≢ n → ties (λ (a : ℕ × Content) (b : ℕ × Content). is_lt (nat_cmp a.0 b.0)) (n, c) (y, d) ≡ nat_eq y n
-    other apart = of (nat_lt y n) refl ∙ sym (ne_eqb y n apart)
-      where
-        of : (b : Bool) → nat_lt y n ≡ b → ties (λ (a : ℕ × Content) (b : ℕ × Content). is_lt (nat_cmp a.0 b.0)) (n, c) (y, d) ≡ false
-        of true e = ap₂ (λ a b. not a && not b) (not_less n y (let lt = ltb-true y n e in omega arith)) (less y n (ltb-true y n e))
-        of false e = ap (λ a. not a && not (is_lt (nat_cmp y n))) (less n y (let le = ltb-false y n e in omega (arith, apart)))
+tied n c d y = search (rules, arith, cases_eq, not_less, eq-eqb, ne_eqb, ltb-true, less, ltb-false)
 
 pub kept_under : (xs ys : List (ℕ × Content)) → IsStableByKey (λ (c : ℕ × Content). c.0) nat_cmp xs ys → (number : ℕ) → filter (of_field number) ys ≡ filter (of_field number) xs
 kept_under xs ys stable number =

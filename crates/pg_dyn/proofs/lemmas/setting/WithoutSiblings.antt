@@ -1,5 +1,5 @@
 -- Messages without the contents of the other members of a oneof.
-use Rattle.std.proofs.Common.{◌≡◌, ◌≢◌, ℕ, ◌<◌, List, [], ◌∷◌, filter, nat_eq, Bool, true, false, not, ◌&&◌, ◌||◌, if◌then◌else◌, Option, Some, None, refl, ap, ap₂, sym, ◌∙◌, arith, ⊎_elim, eq-eqb, ne_eqb}
+use Rattle.std.proofs.Common.{◌≡◌, ◌≢◌, ℕ, ◌<◌, List, [], ◌∷◌, filter, nat_eq, Bool, true, false, not, ◌&&◌, ◌||◌, Some, None, refl, ap, ap₂, sym, ◌∙◌, arith, ⊎_elim, eq-eqb, ne_eqb, rules}
 use Rattle.std.specs.List.{AllByRecursion}
 use Rattle.std.proofs.lemmas.Bool.{cases_eq}
 use Rattle.std.proofs.Math.Bool.{and-false}
@@ -23,11 +23,7 @@ apart_sibling : (f g : FieldShape) (n : ℕ) → g.number ≢ n → (is_sibling 
 apart_sibling f g n apart = ap (λ b. is_sibling f g && b) (ne_eqb g.number n apart) ∙ and-false (is_sibling f g)
 
 own_sibling : (f g : FieldShape) (n : ℕ) → g.number ≡ n → (is_sibling f g && nat_eq g.number n) ≡ is_sibling f g
-own_sibling f g n same = ap (λ b. is_sibling f g && b) (eq-eqb g.number n same) ∙ and_true (is_sibling f g)
-  where
-    and_true : (b : Bool) → (b && true) ≡ b
-    and_true true = refl
-    and_true false = refl
+own_sibling f g n same = search (rules, eq-eqb)
 
 or_false : (b : Bool) → (b || false) ≡ b
 or_false true = refl
@@ -48,13 +44,7 @@ sibling_found (x ∷ fs) f g n rising found =
 pub sibling_nowhere : (fs : List FieldShape) (f : FieldShape) (n : ℕ) → field_at fs n ≡ None → is_sibling_number fs f n ≡ false
 sibling_nowhere [] f n none = refl
 sibling_nowhere (x ∷ fs) f n none =
-    ⊎_elim
-    (λ same. absurd (some_none x (ap (λ b. if b then Some x else field_at fs n) (sym (eq-eqb x.number n same)) ∙ none)))
-    (λ apart. ap (λ a. a || is_sibling_number fs f n) (apart_sibling f x n apart) ∙ sibling_nowhere fs f n (ap (λ b. if b then Some x else field_at fs n) (sym (ne_eqb x.number n apart)) ∙ none))
-    (cases_eq x.number n)
-  where
-    some_none : (y : FieldShape) → ◌≡◌ {A = Option FieldShape} (Some y) None → ⊥
-    some_none y e = cc
+    search (rules, eq-eqb, apart_sibling, sibling_nowhere fs f n, ne_eqb, cases_eq)
 
 -- What is left of a message.
 
@@ -68,6 +58,4 @@ cleared_shown fs f type ms new us m is view =
     ∙ ap (without_siblings fs f) view
 
 pub each_left : (P : ℕ × Content → Type 0) (fs : List FieldShape) (f : FieldShape) (ms : List (ℕ × Content)) → AllByRecursion P ms → AllByRecursion P (filter (λ (c : ℕ × Content). not (is_sibling_number fs f c.0)) ms)
-each_left P fs f ms h =
-    each_weaker (λ (c : ℕ × Content). P c × (not (is_sibling_number fs f c.0) ≡ true)) P (λ c k. k.0) (filter (λ (c : ℕ × Content). not (is_sibling_number fs f c.0)) ms)
-    (each-filter P (λ (c : ℕ × Content). not (is_sibling_number fs f c.0)) ms h)
+each_left P fs f ms h = search (rules, each_weaker, each-filter)

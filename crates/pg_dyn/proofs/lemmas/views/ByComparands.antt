@@ -1,11 +1,11 @@
 -- Where no two fields meet in one oneof of the new type, a message is kept just where each shared field's content is.
-use Rattle.std.proofs.Common.{◌≡◌, ℕ, ◌^◌, ◌<◌, List, [], ◌∷◌, length, map, filter, Bool, true, false, not, ◌&&◌, ◌||◌, Option, Some, None, option_and_then, unwrap_or, Ok, ⊎_elim, refl, ap, sym, ◌∙◌, subst}
+use Rattle.std.proofs.Common.{◌≡◌, ℕ, ◌^◌, ◌<◌, List, [], ◌∷◌, length, map, filter, Bool, true, false, not, ◌&&◌, ◌||◌, Option, Some, None, option_and_then, unwrap_or, ⊎_elim, refl, ap, sym, ◌∙◌, subst, rules}
 use Rattle.std.specs.List.{AllByRecursion, list_all, list_any}
 use Rattle.std.proofs.lemmas.Bool.{and_parts, and_from, and_right, cases_Bool, false_from_ne_true}
 use Rattle.pg_schema.specs.declared.parts.field.TypeId.{TypeId}
 use Rattle.pg_schema.specs.Shape.{Shape, FieldShape, fields, field_at}
 use Rattle.pg_schema.specs.ShapeRules.{IsShape, Rising}
-use Rattle.pg_wire.specs.Records.{WireRecord, records_of}
+use Rattle.pg_wire.specs.Records.{WireRecord}
 use Rattle.pg_dyn.specs.reading.Optional.{all_some, joined}
 use Rattle.pg_dyn.specs.message.Message.{Message, ends, holds, nests, Item, Part, is_of, parts, message_from, IsPlain}
 use Rattle.pg_dyn.specs.reading.Content.{takes, is_unknown, is_sibling, counted, content}
@@ -13,7 +13,7 @@ use Rattle.pg_dyn.specs.encoding.Writing.{field_records, records_in}
 use Rattle.pg_dyn.specs.encoding.Encoding.{encoded_parts, enc}
 use Rattle.pg_dyn.specs.reading.Decoding.{Reader, is_readable, all_readable, read_part, field_parts, read_records, dec}
 use Rattle.pg_dyn.specs.fitting.Belonging.{IsMessage}
-use Rattle.pg_dyn.specs.views.Comparison.{View, Expected, Comparand, writes, expects, comparands, is_zero_expected, is_zero_item, hides_zero, shown, same_content}
+use Rattle.pg_dyn.specs.views.Comparison.{View, Expected, Comparand, writes, expects, comparands, shown, same_content}
 use Rattle.pg_dyn.specs.views.Breaking.{is_kept}
 use Rattle.pg_dyn.specs.laws.Laws.{of_number}
 use Rattle.pg_dyn.specs.laws.ByComparands.{comparands_at, field_read, is_shown, is_field_kept, EachFieldKept, NoComparandsMeet}
@@ -32,12 +32,10 @@ comparands_written view old new a b (nests number key child later) = rw (compara
 
 -- what is shown of a number's parts is what is shown of all
 shown-filter : {A : Type 0} (is_zero_one : A → Bool) (hidden : Bool) (n : ℕ) (ps : List (Part A)) → shown is_zero_one hidden n (filter (is_of n) ps) ≡ shown is_zero_one hidden n ps
-shown-filter is_zero_one hidden n ps =
-    filter-filter_weaker (is_of n) (λ p. is_of n p && not (hidden && is_zero_one p.item)) (λ p h. (and_parts (is_of n p) (not (hidden && is_zero_one p.item)) h).0) ps
+shown-filter is_zero_one hidden n ps = search (rules, filter-filter_weaker, and_parts)
 
 pub same_content-filter : (view : View) (f g : FieldShape) (old : List (Part Expected)) (new : List (Part Item)) → same_content view f g (filter (is_of f.number) old) (filter (is_of f.number) new) ≡ same_content view f g old new
-same_content-filter view f g old new =
-    rw (shown-filter is_zero_expected (hides_zero f g) f.number old, shown-filter is_zero_item (hides_zero f g) f.number new)
+same_content-filter view f g old new = search (rules, shown-filter)
 
 is_shown_some : (view : View) (f g : FieldShape) (cs : List Comparand) (o : Option (List (Part Item))) → is_shown view f g cs o ≡ true → (ps : List (Part Item)) × (o ≡ Some ps) × (same_content view f g (map expects cs) ps ≡ true)
 is_shown_some view f g cs (Some ps) h = (ps, refl, h)
@@ -94,8 +92,7 @@ module _ (view : View) (child : Reader) (fs gs : List FieldShape) (cs : List Com
       gs (each_found gs rising_new))))
 
   counted_is : (g : FieldShape) → field_at gs g.number ≡ Some g → (xs : List Comparand) → comparands_at g.number cs ≡ xs → counted gs g rs ≡ filter (takes g) (filter (of_number g.number) rs)
-  counted_is g found [] none =
-      filter-after_last_of_none (takes g) _ rs (nothing_taken g none) ∙ sym (ap (filter (takes g)) (no_records g.number none))
+  counted_is g found [] none = search (rules, filter-after_last_of_none, nothing_taken, no_records)
   counted_is g found (c ∷ rest) some = ap (filter (takes g)) (after_last_of_none _ rs (no_siblings g found c rest some)) ∙ taken_numbered g
 
   -- The parts of a new field are those of its own records.
@@ -104,11 +101,7 @@ module _ (view : View) (child : Reader) (fs gs : List FieldShape) (cs : List Com
   parts_of_number g found = ap (λ xs. option_and_then (λ qs. all_some (map (read_part child g.element) qs)) (content g xs)) (counted_is g found (comparands_at g.number cs) refl)
 
   parts_read : (f g : FieldShape) → field_at fs f.number ≡ Some f → field_at gs f.number ≡ Some g → field_parts child gs rs g ≡ field_read child g (own f)
-  parts_read f g found at =
-      let number : g.number ≡ f.number = found_number gs f.number g at in
-      parts_of_number g (ap (field_at gs) number ∙ at)
-      ∙ ap (λ n. field_read child g (filter (of_number n) rs)) number
-      ∙ ap (field_read child g) (of_field f found)
+  parts_read f g found at = search (rules, found_number, parts_of_number, of_field)
 
   same_own : (f g : FieldShape) (qs : List (Part Item)) → same_content view f g (map expects (comparands_at f.number cs)) (filter (is_of f.number) qs) ≡ same_content view f g (map expects cs) qs
   same_own f g qs =
@@ -154,19 +147,11 @@ module _ (view : View) (child : Reader) (fs gs : List FieldShape) (cs : List Com
         (each_weaker (λ g. field_at gs g.number ≡ Some g) (λ g. AllByRecursion (λ r. reads g r ≡ true) rs) read_by gs (each_found gs rising_new))))
 
     kept_parts : (f g : FieldShape) → field_at fs f.number ≡ Some f → field_at gs f.number ≡ Some g → (qs : List (Part Item)) × (field_parts child gs rs g ≡ Some qs) × (same_content view f g (map expects (comparands_at f.number cs)) qs ≡ true)
-    kept_parts f g found at =
-        let (qs, read, same) = is_shown_some view f g (comparands_at f.number cs) _ (and_parts _ _ (kept f g found at)).1 in
-        (qs, parts_read f g found at ∙ read, same)
+    kept_parts f g found at = search (rules, is_shown_some, and_parts, parts_read)
 
     some_parts : (g : FieldShape) → field_at gs g.number ≡ Some g → (o : Option FieldShape) → field_at fs g.number ≡ o → field_parts child gs rs g ≡ Some (unwrap_or (field_parts child gs rs g) [])
-    some_parts g at None e =
-        let none : field_parts child gs rs g ≡ Some [] =
-        parts_of_number g at ∙ ap (field_read child g) (records_of_no_number (map writes cs) fs g.number e) ∙ rw (content_none g) in
-        rw none
-    some_parts g at (Some f) e =
-        let number : f.number ≡ g.number = found_number fs g.number f e in
-        let (qs, read, same) = kept_parts f g (ap (field_at fs) number ∙ e) (ap (field_at gs) number ∙ at) in
-        rw read
+    some_parts g at None e = search (rules, parts_of_number, records_of_no_number, content_none)
+    some_parts g at (Some f) e = search (rules, found_number, kept_parts)
 
     the_message : Message
     the_message = message_from (joined (map (λ g. unwrap_or (field_parts child gs rs g) []) gs)) (filter (is_unknown gs) rs)
@@ -199,10 +184,7 @@ module _ (view : View) (old new : Shape) (a b : TypeId) (v : Message) (is_old : 
   rising_new = (fields-IsType new b is_new).rising
 
   read_is : dec new b (enc old a v) ≡ read_records (dec new) (fields new b) (records_in (fields old a) (map writes cs))
-  read_is =
-      let records : records_of (enc old a v) ≡ Ok (records_in (fields old a) (map writes cs)) =
-      records_are view old new a b v is_old is_new is_message plain short ∙ ap (λ ps. Ok (records_in (fields old a) ps)) (sym (comparands_written view old new a b v)) in
-      rw (dec_is new b (enc old a v), records) refl
+  read_is = search (rules, records_are, comparands_written, dec_is)
 
   pub kept_by_comparands : EachFieldKept view (dec new) (fields old a) (fields new b) cs → is_kept view old new a b v ≡ true
   kept_by_comparands kept =
@@ -214,5 +196,4 @@ module _ (view : View) (old new : Shape) (a b : TypeId) (v : Message) (is_old : 
 
   pub comparands_kept : is_kept view old new a b v ≡ true → EachFieldKept view (dec new) (fields old a) (fields new b) cs
   comparands_kept h f g found at =
-      let (w, read, same) = kept_gives view old new a b v is_old is_new is_message plain short h in
-      field_kept view (dec new) (fields old a) (fields new b) cs rising_old rising_new apart w (sym read_is ∙ read) f g found at (same f.number f g found at)
+      search (rules, kept_gives, field_kept, rising_old, rising_new, read_is)

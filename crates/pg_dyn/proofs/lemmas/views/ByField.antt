@@ -1,5 +1,5 @@
 -- A message is kept where it is read and each shared field shows the same: what the new type lacks always comes back.
-use Rattle.std.proofs.Common.{◌≡◌, ◌^◌, ◌<◌, List, [], ◌∷◌, ◌++◌, filter, flat_map, length, Bool, true, false, not, cond, nat_eq, Option, Some, None, is_none, Ok, refl, ap, ap₂, sym, ◌∙◌, append-nil, eq-eqb, true≢false}
+use Rattle.std.proofs.Common.{◌≡◌, ◌^◌, ◌<◌, List, [], ◌∷◌, filter, flat_map, length, Bool, true, false, not, Option, Some, None, is_none, Ok, refl, ap, sym, ◌∙◌, append-nil, eq-eqb, true≢false, rules}
 use Rattle.std.specs.List.{list_any, list_all}
 use Rattle.std.specs.Str.{bytes_eq}
 use Rattle.std.proofs.lemmas.Bool.{and_parts, and_from, or_from, eqb-true, false_from_ne_true}
@@ -33,16 +33,16 @@ module _ (gs : List FieldShape) where
   not_found : (r : WireRecord) (fs : List FieldShape) → is_none (field_at fs r.number) ≡ true → list_any (λ g. takes g r) fs ≡ false
   not_found r [] h = refl
   not_found r (g ∷ fs) h =
-      elim (nat_eq g.number r.number) as (λ b. nat_eq g.number r.number ≡ b → is_none (cond b (Some g) (field_at fs r.number)) ≡ true → list_any (λ x. takes x r) (g ∷ fs) ≡ false) [
-        | true ↦ λ e k. absurd (true≢false (sym k))
-        | false ↦ λ e k. or_from (takes g r) (list_any (λ x. takes x r) fs) (false_from_ne_true (takes g r) (apart e)) (not_found r fs k)
-      ] refl h
-    where
-      apart : nat_eq g.number r.number ≡ false → takes g r ≡ true → ⊥
-      apart e k =
-          let at = eqb-true r.number g.number (takes_number g r k) in
-          let same = eq-eqb g.number r.number (sym at) in
-          true≢false (sym same ∙ e)
+      search (
+        rules,
+        true≢false,
+        or_from,
+        false_from_ne_true,
+        not_found r fs,
+        eqb-true,
+        takes_number,
+        eq-eqb,
+      )
 
   outside_unknown : (r : WireRecord) → is_outside r ≡ true → is_unknown gs r ≡ true
   outside_unknown r h = ap not (not_found r gs h)
@@ -51,12 +51,7 @@ module _ (gs : List FieldShape) where
   own_outside : (ps : List (Part Leaf)) (fs : List FieldShape) → flat_map (λ (f : FieldShape). filter is_outside (field_records f (filter (is_of f.number) ps))) fs ≡ records_in (outside fs gs) ps
   own_outside ps [] = refl
   own_outside ps (f ∷ fs) =
-      let own = field_records f (filter (is_of f.number) ps) in
-      let numbers = field_records_number f (filter (is_of f.number) ps) in
-      elim (is_none (field_at gs f.number)) as (λ b. is_none (field_at gs f.number) ≡ b → filter is_outside own ++ flat_map (λ (g : FieldShape). filter is_outside (field_records g (filter (is_of g.number) ps))) fs ≡ records_in (cond b (f ∷ outside fs gs) (outside fs gs)) ps) [
-        | true ↦ λ e. ap₂ (λ xs ys. xs ++ ys) (filter_all is_outside own (each_weaker (λ (r : WireRecord). r.number ≡ f.number) (λ r. is_outside r ≡ true) (λ r k. ap (λ n. is_none (field_at gs n)) k ∙ e) own numbers)) (own_outside ps fs)
-        | false ↦ λ e. ap₂ (λ xs ys. xs ++ ys) (filter_none is_outside own (each_weaker (λ (r : WireRecord). r.number ≡ f.number) (λ r. is_outside r ≡ false) (λ r k. ap (λ n. is_none (field_at gs n)) k ∙ e) own numbers)) (own_outside ps fs)
-      ] refl
+      search (rules, field_records_number, filter_all, each_weaker, own_outside ps fs, filter_none)
 
   -- what is unknown of the written records with a number outside the type are the records of the fields outside it
   outside_of_written : (fs : List FieldShape) (ps : List (Part Leaf)) → records_outside gs (filter (is_unknown gs) (records_in fs ps)) ≡ records_in (outside fs gs) ps
@@ -73,10 +68,7 @@ shows_same view old new a b v w f None = true
 module _ (view : View) (old new : Shape) (a b : TypeId) (v : Message) (is_old : IsShape old) (is_new : IsShape new) (is_message : IsMessage old a v) (plain : IsPlain v) (short : length (enc old a v) < 2 ^ 64) where
   -- the records that the new type reads
   pub records_are : records_of (enc old a v) ≡ Ok (records_in (fields old a) (encoded_parts old a v))
-  records_are =
-      records_of-enc old a v is_old is_message short
-      ∙ ap (λ us. Ok (records_in (fields old a) (encoded_parts old a v) ++ us)) (plain_unknown v plain)
-      ∙ ap Ok (append-nil (records_in (fields old a) (encoded_parts old a v)))
+  records_are = search (rules, records_of-enc, plain_unknown, append-nil)
 
   -- What the new type lacks comes back as it was written.
   pub unshared_come_back : (w : Message) → dec new b (enc old a v) ≡ Some w → bytes_of (records_outside (fields new b) (unknown_of w)) ≡ unshared_bytes old a (fields new b) v

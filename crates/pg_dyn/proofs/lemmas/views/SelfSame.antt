@@ -1,5 +1,5 @@
 -- A type reads in its own messages just what was written.
-use Rattle.std.proofs.Common.{◌≡◌, ℕ, ◌^◌, ◌<◌, List, [], ◌∷◌, length, Bool, true, false, not, ◌&&◌, cond, nat_eq, Option, Some, None, is_none, refl, ap, ap₂, sym, ◌∙◌, arith, eq-eqb, int_eq, true≢false}
+use Rattle.std.proofs.Common.{◌≡◌, ℕ, ◌^◌, ◌<◌, List, [], ◌∷◌, length, Bool, true, false, ◌&&◌, nat_eq, Option, Some, None, is_none, refl, ap, ap₂, sym, ◌∙◌, arith, eq-eqb, int_eq, true≢false, rules}
 use Rattle.std.specs.Bool.{⊤}
 use Rattle.std.specs.Str.{bytes_eq}
 use Rattle.std.proofs.lemmas.Bool.{and_from}
@@ -9,10 +9,10 @@ use Rattle.pg_schema.specs.declared.parts.field.Element.{Element}
 use Rattle.pg_schema.specs.declared.parts.field.Element.TheVariants as elements
 use Rattle.pg_schema.specs.Shape.{Shape, FieldShape, fields, field_at}
 use Rattle.pg_schema.specs.ShapeRules.{IsShape}
-use Rattle.pg_dyn.specs.message.Message.{Leaf, Int, F32, F64, Bytes, Item, Plain, Msg, Message, ends, holds, nests, Part, parts, unknown_of, is_zero, IsPlain}
+use Rattle.pg_dyn.specs.message.Message.{Leaf, Int, F32, F64, Bytes, Item, Message, ends, holds, nests, Part, parts, unknown_of, IsPlain}
 use Rattle.pg_dyn.specs.encoding.Writing.{records_in, bytes_of}
 use Rattle.pg_dyn.specs.encoding.Encoding.{child_type, encoded_parts, enc}
-use Rattle.pg_dyn.specs.views.Comparison.{numbers, Expected, Alike, Kept, is_zero_expected, is_zero_item, hides_zero, shown, alike_leaves, same_key, matches, outside, records_outside, same_message, unshared_bytes, expected, same}
+use Rattle.pg_dyn.specs.views.Comparison.{numbers, Expected, is_zero_expected, is_zero_item, hides_zero, shown, alike_leaves, same_key, matches, outside, records_outside, same_message, unshared_bytes, expected, same}
 use Rattle.pg_dyn.specs.views.Breaking.{is_kept, Compatible}
 use Rattle.pg_dyn.proofs.Lists.{each_weaker, filter_none, list_all_each}
 use Rattle.pg_dyn.proofs.lemmas.reading.records.Splitting.{each_found}
@@ -59,16 +59,9 @@ module _ (shape : Shape) where
     content_same : (v : Message) → ChildrenSame type v → pointwise part_matches (shown is_zero_expected hidden n (expected numbers shape shape type type v)) (shown is_zero_item hidden n (parts v)) ≡ true
     content_same (ends unknown) h = refl
     content_same (holds number key leaf later) h =
-        elim (nat_eq number n && not (hidden && is_zero leaf)) as (λ b. pointwise part_matches (cond b (record { number = number; key = key; item = Alike leaf } ∷ shown is_zero_expected hidden n (expected numbers shape shape type type later)) (shown is_zero_expected hidden n (expected numbers shape shape type type later))) (cond b (record { number = number; key = key; item = Plain leaf } ∷ shown is_zero_item hidden n (parts later)) (shown is_zero_item hidden n (parts later))) ≡ true) [
-          | true ↦ and_from (same_key key key && alike_leaves numbers f.element f.element leaf leaf) _ (and_from (same_key key key) _ (same_key_self key) (alike_self f.element leaf)) (content_same later h)
-          | false ↦ content_same later h
-        ]
+        search (rules, pointwise, and_from, same_key_self, alike_self, content_same later h)
     content_same (nests number key child later) h =
-        let test = same_message numbers (fields shape (child_type (fields shape type) number)) (fields shape (child_type (fields shape type) number)) (expected numbers shape shape (child_type (fields shape type) number) (child_type (fields shape type) number) child) (unshared_bytes shape (child_type (fields shape type) number) (fields shape (child_type (fields shape type) number)) child) in
-        elim (nat_eq number n && not (hidden && false)) as (λ b. pointwise part_matches (cond b (record { number = number; key = key; item = Kept test } ∷ shown is_zero_expected hidden n (expected numbers shape shape type type later)) (shown is_zero_expected hidden n (expected numbers shape shape type type later))) (cond b (record { number = number; key = key; item = Msg child } ∷ shown is_zero_item hidden n (parts later)) (shown is_zero_item hidden n (parts later))) ≡ true) [
-          | true ↦ and_from (same_key key key && test child) _ (and_from (same_key key key) (test child) (same_key_self key) h.0) (content_same later h.1)
-          | false ↦ content_same later h.1
-        ]
+        search (rules, pointwise, and_from, same_key_self, content_same later h.1)
 
   same_from_children : (type : TypeId) (v : Message) → IsShape shape → IsPlain v → ChildrenSame type v → IsSame type v
   same_from_children type v is_shape plain children =

@@ -1,18 +1,17 @@
 -- What a view keeps is kept by number: a view only tells more items apart.
-use Rattle.std.proofs.Common.{◌≡◌, ℕ, ℤ, List, [], ◌∷◌, Bool, true, false, not, ◌&&◌, cond, nat_eq, Option, Some, None, refl, sym, ◌∙◌, subst, int_eq, true≢false}
+use Rattle.std.proofs.Common.{◌≡◌, ℕ, ℤ, List, [], ◌∷◌, Bool, true, false, not, ◌&&◌, cond, nat_eq, Option, Some, None, refl, sym, ◌∙◌, subst, true≢false, rules, arith}
 use Rattle.std.specs.Bool.{⊤}
 use Rattle.std.specs.List.{list_all}
 use Rattle.std.proofs.lemmas.Bool.{and_from, and_parts, false_from_ne_true}
 use lib.Pointwise.{pointwise}
 use Rattle.pg_schema.specs.declared.parts.enum_type.EnumType.{EnumType}
 use Rattle.pg_schema.specs.declared.parts.field.Element.{Element}
-use Rattle.pg_schema.specs.declared.parts.field.Element.TheVariants as elements
 use Rattle.pg_schema.specs.declared.parts.field.TypeId.{TypeId}
 use Rattle.pg_schema.specs.declared.parts.Parts.{Parts}
 use Rattle.pg_schema.specs.Parts.{enum_at, shape_of}
 use Rattle.pg_schema.specs.Shape.{Shape, FieldShape, fields, field_at}
 use Rattle.pg_dyn.specs.declared.view_name.ViewName.TheVariants as names
-use Rattle.pg_dyn.specs.message.Message.{Leaf, Int, F32, F64, Bytes, Item, Plain, Msg, Message, ends, holds, nests, Part, is_zero}
+use Rattle.pg_dyn.specs.message.Message.{Leaf, Item, Message, ends, holds, nests, Part}
 use Rattle.pg_dyn.specs.encoding.Encoding.{child_type, enc}
 use Rattle.pg_dyn.specs.reading.Decoding.{dec}
 use Rattle.pg_dyn.specs.views.Comparison.{View, numbers, Expected, Alike, Kept, is_zero_expected, hides_zero, shown, alike_leaves, same_key, matches, same_message, unshared_bytes, expected, same}
@@ -26,21 +25,10 @@ by_option (Some x) none some = some x refl
 each_weaker_test : {A : Type 0} (p q : A → Bool) (xs : List A) → list_all p xs ≡ true → ((x : A) → p x ≡ true → q x ≡ true) → list_all q xs ≡ true
 each_weaker_test p q [] h weaker = refl
 each_weaker_test p q (x ∷ xs) h weaker =
-    let both = and_parts (p x) (list_all p xs) h in
-    and_from (q x) (list_all q xs) (weaker x both.0) (each_weaker_test p q xs both.1 weaker)
+    search (rules, and_parts, and_from, each_weaker_test p q xs)
 
 alike_by_number : (view : View) (e g : Element) (a b : Leaf) → alike_leaves view e g a b ≡ true → alike_leaves numbers e g a b ≡ true
-alike_by_number view (elements.Scalar s) g a b h = h
-alike_by_number view (elements.Message t) g a b h = h
-alike_by_number view (elements.Enum e) (elements.Scalar s) a b h = h
-alike_by_number view (elements.Enum e) (elements.Message t) a b h = h
-alike_by_number view (elements.Enum e) (elements.Enum g) (Int m) (Int n) h = and_from (int_eq m n) true ((and_parts (int_eq m n) (view e g m) h).0) refl
-alike_by_number view (elements.Enum e) (elements.Enum g) (Int m) (F32 bits) h = h
-alike_by_number view (elements.Enum e) (elements.Enum g) (Int m) (F64 bits) h = h
-alike_by_number view (elements.Enum e) (elements.Enum g) (Int m) (Bytes bytes) h = h
-alike_by_number view (elements.Enum e) (elements.Enum g) (F32 bits) b h = h
-alike_by_number view (elements.Enum e) (elements.Enum g) (F64 bits) b h = h
-alike_by_number view (elements.Enum e) (elements.Enum g) (Bytes bytes) b h = h
+alike_by_number view e g a b h = grind (arith, and_from, and_parts)
 
 module _ (view : View) (f g : FieldShape) where
   abbrev part_matches : View → Part Expected → Part Item → Bool
@@ -48,32 +36,17 @@ module _ (view : View) (f g : FieldShape) where
 
   leaf_met : (number : ℕ) (key : Option Leaf) (leaf : Leaf) (q : Part Item) →
       part_matches view (record { number = number; key = key; item = Alike leaf }) q ≡ true → part_matches numbers (record { number = number; key = key; item = Alike leaf }) q ≡ true
-  leaf_met number key leaf q h =
-      let both = and_parts (same_key key q.key) (matches view f g (Alike leaf) q.item) h in
-      and_from (same_key key q.key) (matches numbers f g (Alike leaf) q.item) both.0 (of q.item both.1)
-    where
-      of : (item : Item) → matches view f g (Alike leaf) item ≡ true → matches numbers f g (Alike leaf) item ≡ true
-      of (Plain b) h = alike_by_number view f.element g.element leaf b h
-      of (Msg m) h = h
+  leaf_met number key leaf q h = search (rules, and_parts, and_from, alike_by_number)
 
   child_met : (number : ℕ) (key : Option Leaf) (test other : Message → Bool) → ((m : Message) → test m ≡ true → other m ≡ true) → (q : Part Item) →
       part_matches view (record { number = number; key = key; item = Kept test }) q ≡ true → part_matches numbers (record { number = number; key = key; item = Kept other }) q ≡ true
-  child_met number key test other weaker q h =
-      let both = and_parts (same_key key q.key) (matches view f g (Kept test) q.item) h in
-      and_from (same_key key q.key) (matches numbers f g (Kept other) q.item) both.0 (of q.item both.1)
-    where
-      of : (item : Item) → matches view f g (Kept test) item ≡ true → matches numbers f g (Kept other) item ≡ true
-      of (Plain b) h = h
-      of (Msg m) h = weaker m h
+  child_met number key test other weaker q h = search (rules, and_parts, and_from)
 
   -- one part more, on the old side
   one_more : (p r : Part Expected) (ps rs : List (Part Expected)) (w : List (Part Item)) → ((q : Part Item) → part_matches view p q ≡ true → part_matches numbers r q ≡ true) →
       ((w : List (Part Item)) → pointwise (part_matches view) ps w ≡ true → pointwise (part_matches numbers) rs w ≡ true) →
       pointwise (part_matches view) (p ∷ ps) w ≡ true → pointwise (part_matches numbers) (r ∷ rs) w ≡ true
-  one_more p r ps rs [] first later h = h
-  one_more p r ps rs (q ∷ w) first later h =
-      let both = and_parts (part_matches view p q) (pointwise (part_matches view) ps w) h in
-      and_from (part_matches numbers r q) (pointwise (part_matches numbers) rs w) (first q both.0) (later w both.1)
+  one_more p r ps rs w first later h = grind (arith, and_parts, pointwise, and_from)
 
 module _ (view : View) (old new : Shape) where
   -- the new type shows in w what the old one holds in v
@@ -94,14 +67,15 @@ module _ (view : View) (old new : Shape) where
         pointwise (part_matches view f g view) (shown is_zero_expected hidden n (expected view old new a b v)) w ≡ true →
         pointwise (part_matches view f g numbers) (shown is_zero_expected hidden n (expected numbers old new a b v)) w ≡ true
     content_met (ends unknown) children = λ w h. h
-    content_met (holds number key leaf later) children = λ w.
-        let part : Part Expected = record { number = number; key = key; item = Alike leaf } in
-        let ps = shown is_zero_expected hidden n (expected view old new a b later) in
-        let rs = shown is_zero_expected hidden n (expected numbers old new a b later) in
-        elim (nat_eq number n && not (hidden && is_zero leaf)) as (λ t. pointwise (part_matches view f g view) (cond t (part ∷ ps) ps) w ≡ true → pointwise (part_matches view f g numbers) (cond t (part ∷ rs) rs) w ≡ true) [
-          | true ↦ one_more view f g part part ps rs w (leaf_met view f g number key leaf) (content_met later children)
-          | false ↦ content_met later children w
-        ]
+    content_met (holds number key leaf later) children =
+        search (
+          rules,
+          pointwise (part_matches view f g view),
+          pointwise (part_matches view f g numbers),
+          one_more view f g,
+          leaf_met view f g number key leaf,
+          content_met later children,
+        )
     content_met (nests number key child later) children = λ w.
         let test = shows view (child_type (fields old a) number) (child_type (fields new b) number) child in
         let other = shows numbers (child_type (fields old a) number) (child_type (fields new b) number) child in
@@ -141,20 +115,16 @@ kept_by_number view old new a b v h =
 
 compatible_by_number : (view : View) (old new : Shape) (a b : TypeId) → Compatible view old new a b → Compatible numbers old new a b
 compatible_by_number view old new a b compatible v breaks =
-    compatible v
-    (record {
-      is_message = breaks.is_message;
-      is_plain = breaks.is_plain;
-      has_encoding = breaks.has_encoding;
-      not_kept = false_from_ne_true (is_kept view old new a b v) (λ kept. true≢false (sym (kept_by_number view old new a b v kept) ∙ breaks.not_kept));
-    })
+    search (
+      rules,
+      false_from_ne_true (is_kept view old new a b v) (λ kept. true≢false (sym (kept_by_number view old new a b v kept) ∙ breaks.not_kept)),
+      true≢false,
+    )
 
 -- The view by number.
 
 all_alike : (old new : Option EnumType) (n : ℤ) → alike_there names.Numbers old new n ≡ true
-all_alike (Some a) (Some b) n = refl
-all_alike (Some a) None n = refl
-all_alike None new n = refl
+all_alike old new n = grind arith
 
 numbers_view : (old new : Parts) → view_named names.Numbers old new ≡ numbers
 numbers_view old new = λ j. λ a b n. all_alike (enum_at old a) (enum_at new b) n j

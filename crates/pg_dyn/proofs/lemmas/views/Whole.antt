@@ -1,5 +1,5 @@
 -- Where each field alone is kept, and no two fields of the message meet in one oneof of the new type, the whole message is kept.
-use Rattle.std.proofs.Common.{◌≡◌, ◌≢◌, ℕ, ◌^◌, ◌<◌, ◌≤◌, List, [], ◌∷◌, ◌++◌, map, filter, length, Bool, true, false, not, ◌&&◌, cond, nat_eq, Option, Some, refl, ap, ap₂, sym, ◌∙◌, subst, arith, append-nil, eq-eqb, ne_eqb, true≢false, length-append, inl, inr, ◌⊎◌}
+use Rattle.std.proofs.Common.{◌≡◌, ◌≢◌, ℕ, ◌^◌, ◌<◌, ◌≤◌, List, [], ◌∷◌, ◌++◌, map, filter, length, Bool, true, false, not, ◌&&◌, cond, nat_eq, Option, Some, refl, ap, ap₂, sym, ◌∙◌, subst, arith, append-nil, eq-eqb, ne_eqb, true≢false, length-append, inl, inr, ◌⊎◌, rules}
 use Rattle.std.specs.List.{AllByRecursion, list_all}
 use Rattle.std.proofs.lemmas.Bool.{and_parts, eqb-true, false_from_ne_true, not-true, not-false, and_from}
 use Rattle.pg_schema.specs.declared.parts.field.TypeId.{TypeId}
@@ -54,21 +54,11 @@ module _ (view : View) (old new : Shape) (a b : TypeId) (n : ℕ) where
 -- what holds of all parts holds of those of one field
 each-only : (P : Place → Type 0) (n : ℕ) (v : Message) → AllByRecursion P (places v) → AllByRecursion P (places (only n v))
 each-only P n (ends unknown) h = tt
-each-only P n (holds number key leaf later) h =
-    elim (nat_eq number n) as (λ b. AllByRecursion P (places (cond b (holds number key leaf (only n later)) (only n later))))
-    [ true ↦ (h.0, each-only P n later h.1) | false ↦ each-only P n later h.1 ]
-each-only P n (nests number key child later) h =
-    elim (nat_eq number n) as (λ b. AllByRecursion P (places (cond b (nests number key child (only n later)) (only n later))))
-    [ true ↦ (h.0, each-only P n later h.1) | false ↦ each-only P n later h.1 ]
+each-only P n (holds number key leaf later) h = search (rules, each-only P n later h.1)
+each-only P n (nests number key child later) h = search (rules, each-only P n later h.1)
 
 IsPart-only : (fs : List FieldShape) (number : ℕ) (key : Option Leaf) (n : ℕ) (later : Message) → IsPart fs number key (places later) → IsPart fs number key (places (only n later))
-IsPart-only fs number key n later part = record {
-  field = part.field;
-  found = part.found;
-  key_fits = part.key_fits;
-  before = each-only _ n later part.before;
-  alone = each-only _ n later part.alone;
-}
+IsPart-only fs number key n later part = search (rules, each-only)
 
 IsMessage-only : (shape : Shape) (type : TypeId) (n : ℕ) (v : Message) → IsMessage shape type v → IsMessage shape type (only n v)
 unfolding IsPart-only
@@ -82,10 +72,8 @@ IsMessage-only shape type n (nests number key child later) h =
 
 IsPlain-only : (n : ℕ) (v : Message) → IsPlain v → IsPlain (only n v)
 IsPlain-only n (ends unknown) h = tt
-IsPlain-only n (holds number key leaf later) h =
-    elim (nat_eq number n) as (λ b. IsPlain (cond b (holds number key leaf (only n later)) (only n later))) [ true ↦ IsPlain-only n later h | false ↦ IsPlain-only n later h ]
-IsPlain-only n (nests number key child later) h =
-    elim (nat_eq number n) as (λ b. IsPlain (cond b (nests number key child (only n later)) (only n later))) [ true ↦ (h.0, IsPlain-only n later h.1) | false ↦ IsPlain-only n later h.1 ]
+IsPlain-only n (holds number key leaf later) h = search (rules, IsPlain-only n later h)
+IsPlain-only n (nests number key child later) h = search (rules, IsPlain-only n later h.1)
 
 -- the parts of one number, twice
 filter-twice : {A : Type 0} (test : A → Bool) (xs : List A) → filter test (filter test xs) ≡ filter test xs
@@ -94,8 +82,7 @@ filter-twice test xs = filter-filter_weaker test test (λ x h. h) xs
 filter_apart : {A : Type 0} (number : A → ℕ) (m n : ℕ) (xs : List A) → m ≢ n → filter (λ x. nat_eq (number x) m) (filter (λ x. nat_eq (number x) n) xs) ≡ []
 filter_apart number m n [] apart = refl
 filter_apart number m n (x ∷ xs) apart =
-    elim (nat_eq (number x) n) as (λ b. nat_eq (number x) n ≡ b → filter (λ y. nat_eq (number y) m) (cond b (x ∷ filter (λ y. nat_eq (number y) n) xs) (filter (λ y. nat_eq (number y) n) xs)) ≡ [])
-    [ true ↦ λ e. rw (ne_eqb (number x) m (λ at. apart (sym at ∙ eqb-true (number x) n e))) (filter_apart number m n xs apart) | false ↦ λ e. filter_apart number m n xs apart ] refl
+    search (rules, ne_eqb, eqb-true, filter_apart number m n xs apart)
 
 -- the records of one field's parts alone
 records_in-filter : (fs : List FieldShape) (n : ℕ) (ps : List (Part Leaf)) → records_in fs (filter (is_of n) ps) ≡ filter (of_number n) (records_in fs ps)
@@ -118,9 +105,7 @@ records_in-filter (f ∷ fs) n ps =
 length_bytes-filter : (test : WireRecord → Bool) (rs : List WireRecord) → length (bytes_of (filter test rs)) ≤ length (bytes_of rs)
 length_bytes-filter test [] = omega arith
 length_bytes-filter test (r ∷ rs) =
-    let rest = length_bytes-filter test rs in
-    elim (test r) as (λ b. length (bytes_of (cond b (r ∷ filter test rs) (filter test rs))) ≤ length (r.bytes ++ bytes_of rs))
-    [ true ↦ omega (arith, length-append r.bytes (bytes_of rs), length-append r.bytes (bytes_of (filter test rs))) | false ↦ omega (arith, length-append r.bytes (bytes_of rs)) ]
+    search (rules, arith, length_bytes-filter test rs, length-append)
 
 cons_nil : {A : Type 0} (x : A) (xs ys : List A) → ys ≡ x ∷ xs → ys ≡ [] → ⊥
 cons_nil x xs ys is none = let k = sym none ∙ is in cc
@@ -175,9 +160,7 @@ module _ (view : View) (old new : Shape) (a b : TypeId) (v : Message) (is_old : 
 
 find_false : {A : Type 0} (P : A → Type 0) (test : A → Bool) (xs : List A) → AllByRecursion P xs → list_all test xs ≡ false → (x : A) × P x × (test x ≡ false)
 find_false P test [] each h = absurd (cc)
-find_false P test (x ∷ xs) each h =
-    elim (test x) as (λ b. test x ≡ b → (b && list_all test xs) ≡ false → (y : _) × P y × (test y ≡ false))
-    [ true ↦ λ e k. find_false P test xs each.1 k | false ↦ λ e k. (x, each.0, e) ] refl h
+find_false P test (x ∷ xs) each h = search (rules, find_false P test xs each.1)
 
 is_nil : {A : Type 0} → List A → Bool
 is_nil [] = true

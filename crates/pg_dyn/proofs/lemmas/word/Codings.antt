@@ -1,11 +1,9 @@
 -- An item in the range of its type is read again from its body.
-use Rattle.std.proofs.Common.{◌≡◌, ℕ, ℤ, pos, negsuc, zero, suc, if◌then◌else◌, ◌*◌, ◌%◌, ◌^◌, ◌<◌, nat_eq, refl, ap, ◌∙◌, arith}
+use Rattle.std.proofs.Common.{◌≡◌, ℕ, ℤ, pos, negsuc, if◌then◌else◌, ◌*◌, ◌%◌, ◌^◌, ◌<◌, nat_eq, refl, ap, arith, rules}
 use Rattle.std.specs.Bool.{⊤}
 use Rattle.std.proofs.lemmas.Nat.{from_le_bytes-to_le_bytes_4, from_le_bytes-to_le_bytes_8}
 use Rattle.pg_schema.specs.declared.parts.field.Scalar.{Scalar}
-use Rattle.pg_schema.specs.declared.parts.field.Scalar.TheVariants as scalars
 use Rattle.pg_schema.specs.declared.parts.field.Element.{Element}
-use Rattle.pg_schema.specs.declared.parts.field.Element.TheVariants as elements
 use Rattle.pg_wire.specs.declared.record.WireType.{WireType}
 use Rattle.pg_wire.specs.declared.record.WireType.TheVariants.{Varint, I64, Len, I32}
 use Rattle.pg_wire.specs.Words.{IsBetween, twos_complement, signed, zigzag, unzigzag}
@@ -52,11 +50,7 @@ low_word (pos n) h = omega arith
 low_word (negsuc n) h = omega arith
 
 int32_sound : IsSoundWhole int32
-int32_sound n h = (below n h, ap (signed (2 ^ 32)) (low_word n h) ∙ signed-twos_complement (2 ^ 31) n h)
-  where
-    below : (k : ℤ) → IsBetween (2 ^ 31) (2 ^ 31) k → twos_complement (2 ^ 64) k < 2 ^ 64
-    below (pos k) g = omega arith
-    below (negsuc k) g = omega arith
+int32_sound n h = search (rules, arith, low_word, signed-twos_complement)
 
 twos_below : (half : ℕ) (n : ℤ) → IsBetween half half n → twos_complement (2 * half) n < 2 * half
 twos_below half (pos n) h = omega arith
@@ -75,38 +69,29 @@ fixed_32 (pos n) h = (h, refl)
 fixed_32 (negsuc n) h = absurd (omega arith)
 
 zigzag_32 : (n : ℤ) → IsBetween (2 ^ 31) (2 ^ 31) n → (zigzag n < 2 ^ 64) × (unzigzag (zigzag n % 2 ^ 32) ≡ n)
-zigzag_32 n h =
-    let below : zigzag n < 2 ^ 32 = zigzag_below (2 ^ 31) n h in
-    let same : zigzag n % 2 ^ 32 ≡ zigzag n = omega arith in
-    (omega arith, ap unzigzag same ∙ unzigzag-zigzag n)
+zigzag_32 n h = search (rules, arith, zigzag_below (2 ^ 31) n h, unzigzag-zigzag n)
 
 bool_sound : (n : ℤ) → IsBetween 0 2 n → (twos_complement (2 ^ 64) n < 2 ^ 64) × (pos (if nat_eq (twos_complement (2 ^ 64) n) 0 then 0 else 1) ≡ n)
-bool_sound (pos zero) h = (omega arith, refl)
-bool_sound (pos (suc zero)) h = (omega arith, refl)
-bool_sound (pos (suc (suc n))) h = absurd (omega arith)
-bool_sound (negsuc n) h = absurd (omega arith)
+bool_sound n h = grind arith
 
 form_sound : (s : Scalar) → IsSound (scalar_form s)
-form_sound scalars.Double = tt
-form_sound scalars.Float = tt
-form_sound scalars.Int32 = int32_sound
-form_sound scalars.Int64 = λ n h. (twos_below (2 ^ 63) n h, signed-twos_complement (2 ^ 63) n h)
-form_sound scalars.Uint32 = unsigned_32
-form_sound scalars.Uint64 = unsigned_sound (2 ^ 64)
-form_sound scalars.Sint32 = zigzag_32
-form_sound scalars.Sint64 = λ n h. (zigzag_below (2 ^ 63) n h, unzigzag-zigzag n)
-form_sound scalars.Fixed32 = fixed_32
-form_sound scalars.Fixed64 = unsigned_sound (2 ^ 64)
-form_sound scalars.Sfixed32 = λ n h. (twos_below (2 ^ 31) n h, signed-twos_complement (2 ^ 31) n h)
-form_sound scalars.Sfixed64 = λ n h. (twos_below (2 ^ 63) n h, signed-twos_complement (2 ^ 63) n h)
-form_sound scalars.Bool = bool_sound
-form_sound scalars.String = tt
-form_sound scalars.Bytes = tt
+form_sound s =
+    grind (
+      arith,
+      int32_sound,
+      twos_below,
+      signed-twos_complement,
+      unsigned_32,
+      unsigned_sound,
+      zigzag_32,
+      zigzag_below,
+      unzigzag-zigzag,
+      fixed_32,
+      bool_sound,
+    )
 
 element_sound : (e : Element) → IsSound (form e)
-element_sound (elements.Scalar s) = form_sound s
-element_sound (elements.Enum e) = int32_sound
-element_sound (elements.Message t) = tt
+element_sound e = grind (arith, form_sound, int32_sound)
 
 -- the item is read again from its own body
 abbrev pub Reads : Form → Leaf → Type 0

@@ -1,5 +1,5 @@
 -- Words as numbers.
-use Rattle.std.proofs.Common.{◌≡◌, ℕ, ◌*◌, ◌^◌, ◌%◌, ◌<◌, List, [], ◌∷◌, map, pos, nat_eq, Bool, true, false, cond, Some, refl, ap, sym, subst, ◌∙◌, arith}
+use Rattle.std.proofs.Common.{◌≡◌, ℕ, ◌^◌, ◌%◌, ◌<◌, List, map, nat_eq, Bool, true, false, cond, Some, refl, arith}
 use Rattle.std.specs.Prelude.{⊤}
 use Rattle.std.specs.List.{AllByRecursion}
 use Rattle.pg_schema.specs.declared.parts.field.Scalar.{Scalar}
@@ -7,10 +7,8 @@ use Rattle.pg_schema.specs.declared.parts.field.Scalar.TheVariants as scalars
 use Rattle.pg_schema.specs.declared.parts.field.Element.TheVariants as elements
 use Rattle.pg_schema.specs.Shape.{is_packable}
 use Rattle.pg_wire.specs.declared.record.WireType.{WireType}
-use Rattle.pg_wire.specs.declared.record.WireType.TheVariants.{Varint, I64, Len, I32}
 use Rattle.pg_wire.specs.Words.{IsBetween, signed}
 use Rattle.pg_wire.proofs.Words.{IsBetween-signed, IsBetween-unzigzag}
-use Rattle.pg_dyn.specs.declared.message_ref.ValueRef.{ValueRef}
 use Rattle.pg_dyn.specs.declared.number_list.NumberList.{NumberList}
 use Rattle.pg_dyn.specs.message_ref.Borrowed.{leaf_of}
 use Rattle.pg_dyn.specs.message_ref.BorrowedItems.{IsItemKept}
@@ -21,21 +19,14 @@ use Rattle.pg_dyn.proofs.Lists.{each-map, each_of_all}
 
 -- each item of a list of numbers is a number
 pub number_is : (f : Form) (word : ℕ) → IsNumber (number_item f word)
-number_is (Integer whole) word = tt
-number_is Single word = tt
-number_is Double word = tt
-number_is Text word = tt
-number_is Raw word = tt
+number_is f word = grind arith
 
 pub numbers_are : (ns : NumberList) → AllByRecursion IsNumber (numbers_in ns)
 numbers_are ns = each-map IsNumber (number_item (scalar_form ns.scalar)) ns.words.items (each_of_all (λ w. IsNumber (number_item (scalar_form ns.scalar) w)) (number_is (scalar_form ns.scalar)) ns.words.items)
 
 -- a word of the wire type's bits is all kept
 low_same : (wire : WireType) (word : ℕ) → HasBits wire word → low_bits wire word ≡ word
-low_same I32 word h = omega arith
-low_same Varint word h = refl
-low_same I64 word h = refl
-low_same Len word h = refl
+low_same wire word h = grind arith
 
 -- forms of numbers
 abbrev IsNumeric : Form → Type 0
@@ -46,29 +37,11 @@ IsNumeric Text = ⊥
 IsNumeric Raw = ⊥
 
 numeric : (s : Scalar) → is_packable (elements.Scalar s) ≡ true → IsNumeric (scalar_form s)
-numeric scalars.Double h = tt
-numeric scalars.Float h = tt
-numeric scalars.Int32 h = tt
-numeric scalars.Int64 h = tt
-numeric scalars.Uint32 h = tt
-numeric scalars.Uint64 h = tt
-numeric scalars.Sint32 h = tt
-numeric scalars.Sint64 h = tt
-numeric scalars.Fixed32 h = tt
-numeric scalars.Fixed64 h = tt
-numeric scalars.Sfixed32 h = tt
-numeric scalars.Sfixed64 h = tt
-numeric scalars.Bool h = tt
-numeric scalars.String h = absurd (cc)
-numeric scalars.Bytes h = absurd (cc)
+numeric s h = grind arith
 
 leaf_read : (f : Form) (body : List ℕ) → IsNumeric f → HasBits (form_wire f) (word_in (form_wire f) body)
     → leaf_in f body ≡ Some (leaf_of (number_item f (word_in (form_wire f) body)))
-leaf_read (Integer whole) body numeric h = rw (low_same whole.wire (word_in whole.wire body) h)
-leaf_read Single body numeric h = rw (low_same I32 (word_in I32 body) h)
-leaf_read Double body numeric h = refl
-leaf_read Text body numeric h = absurd numeric
-leaf_read Raw body numeric h = absurd numeric
+leaf_read f body numeric h = grind (arith, low_same, numeric)
 
 -- the item of the word of a body is the body's
 pub number_read : (s : Scalar) (body : List ℕ) → is_packable (elements.Scalar s) ≡ true → HasBits (form_wire (scalar_form s)) (word_in (form_wire (scalar_form s)) body)

@@ -5,7 +5,7 @@ use Rattle.pg_schema.specs.declared.parts.field.Element.TheVariants as elements
 use Rattle.pg_schema.specs.declared.parts.field.Scalar.{Scalar}
 use Rattle.pg_schema.specs.contracts.parts.field.Scalar.{the_type}
 use denote.Enum.Bare.{same_true}
-use Rattle.pg_dyn.specs.encoding.Lending.{lent_item, word_item}
+use Rattle.pg_dyn.specs.encoding.Lending.{word_item}
 use Rattle.pg_dyn.specs.encoding.Written.{LeavesFit, packed_body}
 use Rattle.pg_dyn.proofs.lemmas.encoding.NumberWords.{words_fit, words_packed}
 use Rattle.pg_dyn.proofs.encoding.numbers.push_bodies.Goals as goal

@@ -1,5 +1,5 @@
 -- The records of bodies that are read as one message.
-use Rattle.std.proofs.Common.{◌≡◌, ℕ, zero, suc, drop, ◌+◌, ◌<◌, ◌≤◌, get_or, take_all, List, [], ◌∷◌, ◌++◌, map, flat_map, take, length, true, not, ◌||◌, Some, is_some, Result, Ok, Err, refl, ap, sym, ◌∙◌, subst, arith, append_assoc, append-nil}
+use Rattle.std.proofs.Common.{◌≡◌, ℕ, zero, suc, drop, ◌+◌, ◌<◌, ◌≤◌, get_or, take_all, List, [], ◌∷◌, ◌++◌, map, flat_map, take, length, true, Some, is_some, Result, Ok, Err, refl, ap, sym, ◌∙◌, subst, arith, append_assoc, append-nil, rules}
 use Rattle.std.specs.List.{AllByRecursion, list_all}
 use Rattle.std.proofs.lemmas.List.{map-append, map_more}
 use Rattle.pg_schema.specs.declared.parts.field.TypeId.{TypeId}
@@ -12,12 +12,11 @@ use Rattle.pg_wire.proofs.Bind.{ok_pair}
 use Rattle.pg_wire.proofs.RecordLaws.{record_at-append, records_of_Spells, Spells_from_records_of, Spells-more}
 use Rattle.pg_dyn.specs.declared.reading.gathering.Gathered.{Gathered}
 use Rattle.pg_dyn.specs.reading.ByFields.{BodiesGood, RecordsGood}
-use Rattle.pg_dyn.specs.reading.Content.{takes}
-use Rattle.pg_dyn.specs.reading.Decoding.{all_readable, dec, is_readable, read_records}
+use Rattle.pg_dyn.specs.reading.Decoding.{dec, read_records}
 use Rattle.pg_dyn.specs.reading.Gathering.{AreGathered}
 use Rattle.pg_dyn.specs.message.Message.{Message}
 use Rattle.pg_dyn.specs.reading.Steps.{IsShallowIn, IsShallowRecord}
-use Rattle.pg_dyn.specs.reading.Faults.{TooDeep, TooDeepIn, TooDeepOf}
+use Rattle.pg_dyn.specs.reading.Faults.{TooDeep}
 use Rattle.pg_dyn.specs.reading.Faults as faults
 use Rattle.pg_dyn.specs.encoding.Writing.{bytes_of}
 use Rattle.pg_dyn.proofs.lemmas.reading.Depth.{dec_is}
@@ -40,14 +39,7 @@ module _ (shape : Shape) (levels : ℕ) (fs : List FieldShape) (bytes : List ℕ
       each_mid (IsShallowRecord shape levels fs) before r head.others (subst (AllByRecursion (IsShallowRecord shape levels fs)) are shallow)
 
   pub shallow_from_records : AllByRecursion (IsShallowRecord shape levels fs) rs → IsShallowIn shape (suc levels) fs bytes
-  shallow_from_records shallow place h = of (suc levels) bytes place h refl refl
-    where
-      of : (limit : ℕ) (bs : List ℕ) (p : ℕ) → TooDeepIn shape limit fs bs p → limit ≡ suc levels → bs ≡ bytes → ⊥
-      of limit bs p (faults.the_root gs cs) is same = absurd (omega arith)
-      of limit bs p (faults.in_record l gs cs front back rest r f code q joined before read found taken too_deep) is same =
-          let lower : l ≡ levels = omega arith in
-          one_shallow shallow front back rest before.0 r (sym same ∙ joined) before.1 read f (record { found = found; taken = taken }) q
-          (subst (λ n. TooDeepOf shape n f r q) lower too_deep)
+  shallow_from_records shallow place h = search (rules, arith, one_shallow)
 
   rest_shallow : IsShallowIn shape (suc levels) fs bytes → (front : List ℕ) (before later : List WireRecord) → Spells front before
       → AllByRecursion IsRecord later → bytes ≡ front ++ bytes_of later
@@ -74,13 +66,7 @@ module _ (shape : Shape) (levels : ℕ) (type : TypeId) (bytes : List ℕ) (rs :
 
   pub records_good : (is_some (dec shape type bytes) ≡ true) × IsShallowIn shape (suc levels) (fields shape type) bytes
       → RecordsGood shape levels (fields shape type) rs
-  records_good h =
-      let (found, are, readable) = readable_from_dec shape type bytes h.0 in
-      let same : found ≡ rs = ok_records found rs (sym are ∙ spelled) in (
-        subst (λ ss. all_readable (dec shape) (fields shape type) ss ≡ true) same readable,
-        records_shallow shape levels
-            (fields shape type) bytes rs spelled h.1,
-      )
+  records_good h = search (rules, readable_from_dec, ok_records, records_shallow)
 
   pub bytes_read : (m : Message) → read_records (dec shape) (fields shape type) rs ≡ Some m → dec shape type bytes ≡ Some m
   bytes_read m h = rw (dec_is shape type bytes, spelled) h
@@ -112,18 +98,10 @@ bodies_spelled (b ∷ bs) h = records_of-append b.body (bodies_of bs) (own_recor
 
 module _ (shape : Shape) (levels : ℕ) (fs : List FieldShape) where
   good_parts : (rs ss : List WireRecord) → RecordsGood shape levels fs (rs ++ ss) → RecordsGood shape levels fs rs × RecordsGood shape levels fs ss
-  good_parts rs ss h =
-      let test : WireRecord → _ = λ r. list_all (λ f. not (takes f r) || is_readable (dec shape) f r) fs in
-      let each = list_all_true test (rs ++ ss) h.0 in (
-        (list_all_each test rs (each_before (λ r. test r ≡ true) rs ss each), each_before (IsShallowRecord shape levels fs) rs ss h.1),
-        (list_all_each test ss (each_after (λ r. test r ≡ true) rs ss each), each_after (IsShallowRecord shape levels fs) rs ss h.1),
-      )
+  good_parts rs ss h = search (rules, list_all_true, list_all_each, each_before, each_after)
 
   good_joined : (rs ss : List WireRecord) → RecordsGood shape levels fs rs → RecordsGood shape levels fs ss → RecordsGood shape levels fs (rs ++ ss)
-  good_joined rs ss h k = (
-    list_all-append (λ r. list_all (λ f. not (takes f r) || is_readable (dec shape) f r) fs) rs ss h.0 k.0,
-    each-append (IsShallowRecord shape levels fs) rs ss h.1 k.1,
-  )
+  good_joined rs ss h k = search (rules, list_all-append, each-append)
 
 -- Each body is good exactly where the records of all are.
 module _ (shape : Shape) (levels : ℕ) (type : TypeId) where
@@ -141,8 +119,7 @@ module _ (shape : Shape) (levels : ℕ) (type : TypeId) where
       → RecordsGood shape levels (fields shape type) (flat_map own_records bs)
   all_records_good [] h good = (refl, tt)
   all_records_good (b ∷ bs) h good =
-      good_joined shape levels (fields shape type) (own_records b) (flat_map own_records bs)
-      (records_good shape levels type b.body (own_records b) h.0 good.0) (all_records_good bs h.1 good.1)
+      search (rules, good_joined, records_good, all_records_good bs h.1 good.1)
 
 -- What is gathered of bodies.
 
@@ -159,13 +136,7 @@ Gathers shape type bytes old new =
 pub opened_more : (shape : Shape) (type : TypeId) (bs : List WireRecord) (b : WireRecord) (old new : Gathered) → AreOpened shape type bs old
     → Gathers shape type b.body old new → AreOpened shape type (bs ++ b ∷ []) new
 opened_more shape type bs b old new h k =
-    let own = spelled_by b k.0 k.1 in
-    let more : flat_map own_records (bs ++ b ∷ []) ≡ flat_map own_records bs ++ k.0 =
-    flat_map-append' own_records bs (b ∷ []) ∙ ap (λ rs. flat_map own_records bs ++ rs) (append-nil (own_records b) ∙ own) in
-    record {
-      spelled = each-append IsSpelled bs (b ∷ []) h.spelled (is_spelled b k.0 k.1, tt);
-      gathered = subst (λ rs. AreGathered shape type rs new) (sym more) (k.2 (flat_map own_records bs) h.gathered);
-    }
+    search (rules, spelled_by, flat_map-append', append-nil, each-append, is_spelled)
 
 module _ (shape : Shape) (type : TypeId) (bs : List WireRecord) (g : Gathered) (h : AreOpened shape type bs g) where
   -- what the gathered records say is what the bodies say, one after the other
@@ -220,20 +191,9 @@ pub record OneAt (run : List Record) (place : ℕ) : Type 0 where
 pub one_at : (run : List Record) (place : ℕ) → place < length run → OneAt run place
 one_at [] place below = absurd (omega arith)
 one_at (r ∷ run) zero below = record { one = r; behind = run; split = refl; cut = λ n is. ap (λ k. take k (r ∷ run)) is; front = refl }
-one_at (r ∷ run) (suc place) below =
-    let later = one_at run place (omega arith) in
-    let next : suc place + 1 ≡ suc (place + 1) = omega arith in
-    record {
-      one = later.one;
-      behind = later.behind;
-      split = ap (λ rs. r ∷ rs) later.split;
-      cut = later.cut;
-      front = ap (λ n. take n (r ∷ run)) next ∙ ap (λ rs. r ∷ rs) later.front;
-    }
+one_at (r ∷ run) (suc place) below = search (rules, arith, one_at run place)
 
 -- what holds of each record holds of it
 pub one_holds : (P : WireRecord → Type 0) (run : List Record) (place : ℕ) (at : OneAt run place) → AllByRecursion P (map seen_record run)
     → P (seen_record at.one)
-one_holds P run place at h =
-    each_mid P (map seen_record (take place run)) (seen_record at.one) (map seen_record at.behind)
-    (subst (AllByRecursion P) (ap (map seen_record) at.split ∙ map-append seen_record (take place run) (at.one ∷ at.behind)) h)
+one_holds P run place at h = search (rules, each_mid, map-append)

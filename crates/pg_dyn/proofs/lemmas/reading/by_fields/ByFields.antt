@@ -1,5 +1,5 @@
 -- Records that are read field by field: what is read so far, one field more, and the message that all of them are.
-use Rattle.std.proofs.Common.{◌≡◌, ◌≢◌, ℕ, ◌<◌, ◌≤◌, List, [], ◌∷◌, ◌++◌, length, map, filter, Bool, true, false, cond, ◌&&◌, ◌||◌, nat_eq, Option, Some, None, option_and_then, refl, ap, ap₂, sym, subst, ◌∙◌, arith, ⊎_elim, ne_eqb, eq-eqb, eqb-true, append-nil}
+use Rattle.std.proofs.Common.{◌≡◌, ◌≢◌, ℕ, ◌<◌, ◌≤◌, List, [], ◌∷◌, ◌++◌, length, map, filter, Bool, true, false, cond, ◌&&◌, nat_eq, Option, Some, None, option_and_then, refl, ap, ap₂, sym, subst, ◌∙◌, arith, ⊎_elim, ne_eqb, eq-eqb, eqb-true, append-nil, rules}
 use Rattle.std.specs.List.{AllByRecursion, list_any}
 use Rattle.std.proofs.lemmas.Bool.{or_right, or_left, cases_eq}
 use Rattle.pg_schema.specs.declared.parts.field.TypeId.{TypeId}
@@ -36,17 +36,7 @@ use Rattle.pg_dyn.proofs.lemmas.reading.records.Splitting.{each_found, found_num
 module _ {A : Type 0} (keep test : A → Bool) where
   kept_later : (xs : List A) → length (filter keep (after_last_of test xs)) ≤ length (filter keep xs)
   kept_later [] = omega arith
-  kept_later (x ∷ xs) = of (list_any test (x ∷ xs)) (keep x) (kept_later xs)
-    where
-      of : (a b : Bool) → length (filter keep (after_last_of test xs)) ≤ length (filter keep xs)
-          → length (filter keep (cond a (after_last_of test xs) (x ∷ xs))) ≤ length (filter keep (x ∷ xs))
-      of true b h = more (keep x) h
-        where
-          more : (d : Bool) → length (filter keep (after_last_of test xs)) ≤ length (filter keep xs)
-              → length (filter keep (after_last_of test xs)) ≤ length (cond d (x ∷ filter keep xs) (filter keep xs))
-          more true k = omega arith
-          more false k = k
-      of false b h = omega arith
+  kept_later (x ∷ xs) = search (rules, arith, kept_later xs)
 
   -- where the last that passes is further on and all are kept, the first isn't
   kept_on : (x : A) (xs : List A) → list_any test (x ∷ xs) ≡ true → filter keep (after_last_of test (x ∷ xs)) ≡ filter keep (x ∷ xs)
@@ -60,12 +50,7 @@ module _ {A : Type 0} (keep test : A → Bool) where
 
   any_kept : ((x : A) → keep x ≡ true → test x ≡ true) → (xs : List A) → filter keep xs ≢ [] → list_any test xs ≡ true
   any_kept passes [] h = absurd (h refl)
-  any_kept passes (x ∷ xs) h = of (keep x) refl h (any_kept passes xs)
-    where
-      of : (b : Bool) → keep x ≡ b → cond b (x ∷ filter keep xs) (filter keep xs) ≢ [] → (filter keep xs ≢ [] → list_any test xs ≡ true)
-          → (test x || list_any test xs) ≡ true
-      of true e k rest = or_left (test x) (list_any test xs) (passes x e)
-      of false e k rest = or_right (test x) (list_any test xs) (rest k)
+  any_kept passes (x ∷ xs) h = search (rules, any_kept passes xs, or_left, or_right)
 
 never_both : {A : Type 0} (keep other test tried : A → Bool) → ((x : A) → other x ≡ true → test x ≡ true) → ((x : A) → keep x ≡ true → tried x ≡ true)
     → (xs : List A)
@@ -82,18 +67,8 @@ never_both keep other test tried p q (x ∷ xs) h k a b =
 sibling_absent : (fs : List FieldShape) (rs : List WireRecord) → AllCount fs rs → (f g : FieldShape) → field_at fs f.number ≡ Some f
     → field_at fs g.number ≡ Some g
     → filter (takes f) rs ≢ [] → filter (takes g) rs ≢ [] → is_sibling f g ≡ false
-sibling_absent fs rs all f g found_f found_g some_f some_g = of (is_sibling f g) refl
-  where
-    sibling_takes : (x y : FieldShape) (r : WireRecord) → field_at fs y.number ≡ Some y → is_sibling x y ≡ true → takes y r ≡ true
-        → list_any (λ z. is_sibling x z && takes z r) fs ≡ true
-    sibling_takes x y r found sibling taken = list_any_at (λ z. is_sibling x z && takes z r) fs y.number y found (rw (sibling, taken))
-
-    of : (b : Bool) → is_sibling f g ≡ b → b ≡ false
-    of false e = refl
-    of true e =
-        absurd (never_both (takes f) (takes g) (λ r. list_any (λ z. is_sibling f z && takes z r) fs) (λ r. list_any (λ z. is_sibling g z && takes z r) fs)
-        (λ r taken. sibling_takes f g r found_g e taken) (λ r taken. sibling_takes g f r found_f (is_sibling_sym f g e) taken) rs (all.count f found_f)
-        (all.count g found_g) some_f some_g)
+sibling_absent fs rs all f g found_f found_g some_f some_g =
+    search (rules, list_any_at, never_both, is_sibling_sym)
 
 -- What a content keeps.
 
@@ -125,21 +100,12 @@ rises_end : (n : ℕ) (held : Option ContentRef) (cs : List (ℕ × ContentRef))
     → Rises (cs ++ with_held n held)
 rises_end n None [] below h = tt
 rises_end n (Some c) [] below h = (tt, tt)
-rises_end n held (c ∷ cs) below h = (each-append (λ (d : ℕ × ContentRef). c.0 < d.0) cs (with_held n held) h.0 (last held), rises_end n held cs below.1 h.1)
-  where
-    last : (o : Option ContentRef) → AllByRecursion (λ (d : ℕ × ContentRef). c.0 < d.0) (with_held n o)
-    last None = tt
-    last (Some d) = (below.0, tt)
+rises_end n held (c ∷ cs) below h = search (rules, each-append, rises_end n held cs below.1 h.1)
 
 -- the first that a filter keeps
 first_kept : {A : Type 0} (P : A → Type 0) (test : A → Bool) (xs : List A) → AllByRecursion P xs → filter test xs ≢ [] → (x : A) × P x × (test x ≡ true)
 first_kept P test [] h some = absurd (some refl)
-first_kept {A} P test (x ∷ xs) h some = of (test x) refl some (first_kept P test xs h.1)
-  where
-    of : (b : Bool) → test x ≡ b → cond b (x ∷ filter test xs) (filter test xs) ≢ [] → (filter test xs ≢ [] → (y : A) × P y × (test y ≡ true))
-        → (y : A) × P y × (test y ≡ true)
-    of true e k rest = (x, h.0, e)
-    of false e k rest = rest k
+first_kept {A} P test (x ∷ xs) h some = search (rules, first_kept P test xs h.1)
 
 append_none : {A : Type 0} (xs ys : List A) → xs ++ ys ≡ [] → xs ≡ []
 append_none [] ys h = refl
@@ -200,10 +166,7 @@ module _ (shape : Shape) (type : TypeId) where
 
     seen_of : (n : ℕ) → filter (is_of n) (all_seen
         (cs ++ with_held f.number held)) ≡ filter (is_of n) (all_seen cs) ++ filter (is_of n) (parts_held f.number held)
-    seen_of n =
-        ap (filter (is_of n)) (flat_map-append' (λ (c : ℕ × ContentRef). content_seen c.0 c.1) cs (with_held f.number held)
-        ∙ ap (λ ps. all_seen cs ++ ps) (seen_held f.number held))
-        ∙ filter-append' (is_of n) (all_seen cs) (parts_held f.number held)
+    seen_of n = search (rules, flat_map-append', seen_held, filter-append')
 
     each_next : (g : FieldShape) → field_at (fields shape type) g.number ≡ Some g
         → Say shape g (filter (takes g) (rs ++ more)) (filter (is_of g.number) (all_seen (cs ++ with_held f.number held)))
@@ -256,14 +219,7 @@ module _ (shape : Shape) (type : TypeId) where
   module _ (rs : List WireRecord) (cs : List (ℕ × ContentRef)) (rising : Rising (fields shape type)) (all : AllCount (fields shape type) rs)
       (was : ReadSoFar rs cs) where
     apart_of : (c d : ℕ × ContentRef) → IsBacked rs c → IsBacked rs d → AreApart (fields shape type) c.0 d.0
-    apart_of c d h k f g at_f at_g =
-        let is_f = same_found f h.holds.field (sym at_f ∙ h.holds.found) in
-        let is_g = same_found g k.holds.field (sym at_g ∙ k.holds.found) in
-        let found_h = ap (field_at (fields shape type)) (found_number (fields shape type) c.0 h.holds.field h.holds.found) ∙ h.holds.found in
-        let found_k = ap (field_at (fields shape type)) (found_number (fields shape type) d.0 k.holds.field k.holds.found) ∙ k.holds.found in
-        subst (λ x. is_sibling x g ≡ false) (sym is_f)
-        (subst (λ x. is_sibling h.holds.field x ≡ false) (sym is_g)
-        (sibling_absent (fields shape type) rs all h.holds.field k.holds.field found_h found_k h.some k.some))
+    apart_of c d h k f g at_f at_g = search (rules, same_found, found_number, sibling_absent)
 
     none_siblings : (ds : List (ℕ × ContentRef)) → AllByRecursion (IsBacked rs) ds → NoneSiblings (fields shape type) ds
     none_siblings [] h = tt

@@ -1,5 +1,5 @@
 -- What fields of messages hold, from the bodies of their records.
-use Rattle.std.proofs.Common.{drop, ◌≡◌, ◌≢◌, ℕ, zero, suc, ◌+◌, ◌<◌, List, [], ◌∷◌, ◌++◌, map, take, length, true, false, cond, Some, None, is_some, option_map, option_and_then, refl, ap, sym, ◌∙◌, subst, append-nil}
+use Rattle.std.proofs.Common.{drop, ◌≡◌, ◌≢◌, ℕ, zero, suc, ◌+◌, ◌<◌, List, [], ◌∷◌, ◌++◌, map, take, length, true, false, cond, Some, None, is_some, option_map, option_and_then, refl, ap, sym, ◌∙◌, subst, append-nil, rules, arith}
 use Rattle.std.specs.Bool.{⊤}
 use Rattle.std.specs.List.{AllByRecursion}
 use Rattle.std.proofs.lemmas.Bool.{and_parts}
@@ -12,12 +12,11 @@ use Rattle.pg_wire.specs.Reads.{seen_record}
 use Rattle.pg_wire.specs.Records.{IsRecord, WireRecord}
 use Rattle.pg_dyn.specs.declared.message_ref.ContentRef.TheVariants as contents
 use Rattle.pg_dyn.specs.declared.message_ref.ValueRef.{ValueRef}
-use Rattle.pg_dyn.specs.declared.message_ref.ValueRef.TheVariants as values
 use Rattle.pg_dyn.specs.reading.ByFields.{AreGood, AreOf, BodiesGood, HoldsOf, IsChildOf}
 use Rattle.pg_dyn.specs.reading.Content.{content, last_item, leaf_bytes, leaves_in, merged, plain_content, takes}
 use Rattle.pg_dyn.specs.message_ref.BorrowedItems.{ItemKept}
 use Rattle.pg_dyn.specs.reading.Decoding.{dec, is_child, read_item, read_part}
-use Rattle.pg_dyn.specs.message.Message.{Bytes, Item, Leaf, Msg, Part}
+use Rattle.pg_dyn.specs.message.Message.{Bytes, Item, Leaf, Part}
 use Rattle.pg_dyn.specs.reading.Optional.{all_some, joined}
 use Rattle.pg_dyn.specs.message_ref.Borrowed.{item_seen}
 use Rattle.pg_dyn.specs.reading.Steps.{FieldReads, IsShallow, IsShallowIn, item_of, part_of}
@@ -39,9 +38,7 @@ module _ (shape : Shape) (f : FieldShape) (t : TypeId) (is_message : f.element �
   BodyGood levels r = (is_some (dec shape t r.body) ≡ true) × IsShallowIn shape levels (fields shape t) r.body
 
   child_good : (levels : ℕ) (r : WireRecord) → (levels ≡ 0 → ⊥) → takes f r ≡ true → BodyGood levels r → FieldReads shape f r × IsShallow shape levels f r
-  child_good levels r some taken h =
-      let (alone, read, nothing) = is_some_found (dec shape t r.body) h.0 in
-      (readable_child f t is_message no_map (dec shape) r alone taken read, body_shallow shape f t is_message no_map levels r some h.1)
+  child_good levels r some taken h = search (rules, is_some_found, readable_child, body_shallow)
 
   pub some_levels : (levels : ℕ) (r : WireRecord) → IsShallow shape levels f r → levels ≡ 0 → ⊥
   some_levels levels r shallow none = shallow 0 (subst (λ n. TooDeepOf shape n f r 0) (sym none) (faults.the_child f r t no_map is_message))
@@ -74,27 +71,17 @@ module _ (shape : Shape) (f : FieldShape) (t : TypeId) (is_message : f.element �
   body_leaf r = Bytes r.body
 
   rows_are : (rs : List WireRecord) → AreOf f rs → all_some (map (leaves_in f) rs) ≡ Some (map (λ r. body_leaf r ∷ []) rs)
-  rows_are rs are =
-      all_some-map (leaves_in f) (λ r. body_leaf r ∷ []) rs
-      (each_weaker (λ r. IsRecord r × (takes f r ≡ true)) (λ r. leaves_in f r ≡ Some (body_leaf r ∷ [])) (λ r h. one_body f t is_message no_map r h.1) rs are)
+  rows_are rs are = search (rules, all_some-map, each_weaker, one_body)
 
   holds_by_leaves : (rs : List WireRecord) (leaves : List Leaf) (ps : List (Part Item)) → plain_content f rs ≡ Some leaves
       → all_some (map (read_part (dec shape) (elements.Message t)) (map part leaves)) ≡ Some ps
       → HasParts shape f rs ps
-  holds_by_leaves rs leaves ps h k =
-      ap (option_and_then (λ qs. all_some (map (read_part (dec shape) f.element) qs)))
-      (content_plain f.number f.presence f.element f.oneof rs no_map ∙ ap (option_map (map part)) h)
-      ∙ ap (λ e. all_some (map (read_part (dec shape) e) (map part leaves))) is_message ∙ k
+  holds_by_leaves rs leaves ps h k = search (rules, content_plain)
 
 -- a message that was read is the item of its bytes
 pub child_item : (shape : Shape) (t : TypeId) (rs : List WireRecord) (listed : _) (v : ValueRef) → IsChildOf shape t rs v
     → read_item (dec shape) (elements.Message t) (Bytes (bodies_of rs)) ≡ Some (item_of (item_seen listed v))
-child_item shape t rs listed (values.Msg child) h = ap (option_map Msg) h
-child_item shape t rs listed (values.Int x) h = absurd h
-child_item shape t rs listed (values.F32 x) h = absurd h
-child_item shape t rs listed (values.F64 x) h = absurd h
-child_item shape t rs listed (values.Text x) h = absurd h
-child_item shape t rs listed (values.Bytes x) h = absurd h
+child_item shape t rs listed v h = grind arith
 
 -- each record's body is read as the message at its index
 abbrev pub AreChildren : Shape → TypeId → List WireRecord → List ValueRef → Type 0
@@ -129,10 +116,7 @@ module _ (shape : Shape) (f : FieldShape) (t : TypeId) (is_message : f.element �
   children_parts [] (v ∷ vs) h = absurd h
   children_parts (r ∷ rs) [] h = absurd h
   children_parts (r ∷ rs) (v ∷ vs) h =
-      let one =
-      ap (λ bytes. read_part (dec shape) (elements.Message t) (record { number = f.number; key = None; item = Bytes bytes })) (sym (append-nil r.body))
-      ∙ child_part (r ∷ []) true v h.0 in
-      rw (one, children_parts rs vs h.1)
+      search (rules, append-nil, child_part, children_parts rs vs h.1)
 
   -- A repeated field holds a message for each record.
   pub children_held : (rs : List WireRecord) (vs : List ValueRef) → is_repeated f.presence ≡ true → AreOf f rs → AreChildren shape t rs vs
@@ -160,15 +144,11 @@ module _ (shape : Shape) (f : FieldShape) (t : TypeId) (is_message : f.element �
   pub child_held : (rs : List WireRecord) (v : ValueRef) → is_repeated f.presence ≡ false → rs ≢ [] → AreOf f rs → IsChildOf shape t rs v
       → HoldsOf shape f rs (Some (contents.One v))
   child_held rs v singular some are h =
-      holds_by_leaves shape f t is_message no_map rs (Bytes (bodies_of rs) ∷ []) _
-      (merged_content rs singular are ∙ ap (λ xs. Some xs) (merged_are rs some)) (rw (child_part rs false v h))
+      search (rules, holds_by_leaves, bodies_of, merged_content, merged_are, child_part)
 
 pub seen_some : (run : List Record) → run ≢ [] → map seen_record run ≢ []
 seen_some [] some e = some refl
-seen_some (r ∷ run) some e = not_nil (seen_record r) (map seen_record run) e
-  where
-    not_nil : (x : WireRecord) (xs : List WireRecord) → x ∷ xs ≢ []
-    not_nil x xs k = cc
+seen_some (r ∷ run) some e = search rules
 
 -- A repeated field, record by record.
 

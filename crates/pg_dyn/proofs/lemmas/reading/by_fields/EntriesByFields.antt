@@ -1,5 +1,5 @@
 -- An entry of a map is good exactly where the records of its key and of its value are, and what they say is what it holds.
-use Rattle.std.proofs.Common.{Result, ◌<◌, get_or, length, take, ◌≡◌, ◌≢◌, ℕ, suc, ◌+◌, List, [], ◌∷◌, ◌++◌, map, filter, Bool, true, false, not, ◌&&◌, ◌||◌, cond, Option, Some, None, is_some, option_map, option_and_then, Ok, refl, ap, sym, ◌∙◌, subst}
+use Rattle.std.proofs.Common.{Result, ◌<◌, get_or, length, take, ◌≡◌, ◌≢◌, ℕ, suc, ◌+◌, List, [], ◌∷◌, ◌++◌, map, filter, Bool, true, false, not, ◌||◌, cond, Option, Some, None, is_some, option_map, option_and_then, Ok, refl, ap, sym, ◌∙◌, subst, rules}
 use Rattle.std.specs.List.{AllByRecursion, list_all}
 use Rattle.std.proofs.lemmas.Bool.{and_from, eqb-true}
 use Rattle.std.proofs.lemmas.List.{map_more}
@@ -22,7 +22,7 @@ use Rattle.pg_dyn.specs.declared.message_ref.ValueRef.{ValueRef}
 use Rattle.pg_dyn.specs.declared.reading.parts.Parts.{Parts}
 use Rattle.pg_dyn.specs.reading.ByFields.{AreGood, AreOf, BodiesGood, IsChildOf, IsEntryRead}
 use Rattle.pg_dyn.specs.word.Coding.{form, zero_leaf}
-use Rattle.pg_dyn.specs.reading.Content.{entry_part, key_field, leaves_in, merged, option_from, takes, value_field, entry_fields}
+use Rattle.pg_dyn.specs.reading.Content.{entry_part, key_field, merged, option_from, takes, value_field, entry_fields}
 use Rattle.pg_dyn.specs.message_ref.BorrowedItems.{ItemKept}
 use Rattle.pg_dyn.specs.reading.Decoding.{all_plain_readable, dec, entry_records, is_plain_readable, is_readable}
 use Rattle.pg_dyn.specs.reading.EntryParts.{AreParts, AreReadable, ScalarsGood}
@@ -31,8 +31,7 @@ use Rattle.pg_dyn.specs.message.Message.{Bytes, Item, Leaf, Plain}
 use Rattle.pg_dyn.specs.reading.Optional.{first_or}
 use Rattle.pg_dyn.specs.reading.ReadingOn.{IsNoMessage}
 use Rattle.pg_dyn.specs.message_ref.BorrowedItems.{IsItemKept}
-use Rattle.pg_dyn.specs.message_ref.Borrowed.{leaf_of}
-use Rattle.pg_dyn.specs.reading.Steps.{FieldReads, IsShallow, IsShallowIn, IsShallowRecord, Taken, item_of}
+use Rattle.pg_dyn.specs.reading.Steps.{FieldReads, IsShallow, IsShallowIn, IsShallowRecord, Taken}
 use Rattle.pg_dyn.specs.reading.Faults.{TooDeep, TooDeepOf}
 use Rattle.pg_dyn.specs.reading.Faults as faults
 use Rattle.pg_dyn.proofs.lemmas.reading.by_fields.BodiesByFields.{bodies_of, records_shallow, seen_at, shallow_from_records}
@@ -176,19 +175,11 @@ module _ (n : ℕ) (e : Element) (scalar : IsNoMessage e) (rs : List WireRecord)
       (λ s k taken. (k taken, scalar_shallow shape levels e s scalar (explicit n e) refl refl)) rs (h shape))
 
   pub good_scalars : (shape : Shape) (levels : ℕ) → AreGood shape levels (explicit n e) (own (explicit n e) rs) → AreReadable (explicit n e) rs
-  good_scalars shape levels h = λ other.
-      each_weaker (λ s. takes (explicit n e) s ≡ true → FieldReads shape (explicit n e) s × IsShallow shape levels (explicit n e) s)
-      (λ s. takes (explicit n e) s ≡ true → is_plain_readable (dec other) (explicit n e) s ≡ true)
-      (λ s k taken. ap (λ b. is_some (leaves_in (explicit n e) s) && b) (no_child (dec other) e s.body scalar ∙ sym (no_child (dec shape) e s.body scalar))
-      ∙ (k taken).0) rs
-      (each_passing (λ s. FieldReads shape (explicit n e) s × IsShallow shape levels (explicit n e) s) (takes (explicit n e)) rs h)
+  good_scalars shape levels h = search (rules, each_weaker, no_child, each_passing)
 
 -- what a good entry says of its scalars
 pub scalars_of_good : (shape : Shape) (levels : ℕ) (key : Scalar) (e : Element) (rs : List WireRecord) → EntryGood shape levels key e rs → ScalarsGood key e rs
-scalars_of_good shape levels key e rs h = record {
-  key_good = good_scalars 1 (elements.Scalar key) tt rs shape levels h.key_good;
-  value_good = λ scalar. good_scalars 2 e scalar rs shape levels h.value_good;
-}
+scalars_of_good shape levels key e rs h = search (rules, good_scalars)
 
 -- an entry is good whose value is no message, or a message of good bodies
 pub good_of_scalars : (shape : Shape) (levels : ℕ) (key : Scalar) (e : Element) (rs : List WireRecord) → IsNoMessage e → ScalarsGood key e rs
@@ -201,11 +192,7 @@ good_of_scalars shape levels key e rs scalar h = record {
 
 module _ (shape : Shape) (levels : ℕ) (key : Scalar) (e : Element) (t : TypeId) (is : e ≡ elements.Message t) (rs : List WireRecord) where
   pub good_of_bodies : AllByRecursion IsRecord rs → ScalarsGood key e rs → BodiesGood shape levels t (own (value_field e) rs) → EntryGood shape levels key e rs
-  good_of_bodies are h good = record {
-    key_good = scalars_good 1 (elements.Scalar key) tt rs shape levels h.key_good;
-    value_good = children.good_from_bodies shape (value_field e) t is refl levels (own (value_field e) rs) (are_of (value_field e) rs are) good;
-    has_room = λ u same none. good.0 none;
-  }
+  good_of_bodies are h good = search (rules, scalars_good, children.good_from_bodies, are_of)
 
   pub bodies_of_good : EntryGood shape levels key e rs → BodiesGood shape levels t (own (value_field e) rs)
   bodies_of_good h = of (own (value_field e) rs) h.value_good
@@ -226,8 +213,7 @@ PartWhole shape g rs v = (leaf : Leaf) × (entry_part g rs ≡ Some leaf) × IsR
 pub part_whole : (shape : Shape) (g : FieldShape) (rs : List WireRecord) (held : Option ValueRef) (v : ValueRef) → PartRead shape g rs held
     → WholeItem shape g.element held v → PartWhole shape g rs v
 part_whole shape g rs None v part whole = (zero_leaf (form g.element), ap (option_map (first_or (zero_leaf (form g.element)))) part, whole)
-part_whole shape g rs (Some w) v part whole =
-    (part.0, ap (option_map (first_or (zero_leaf (form g.element)))) part.1, subst (IsReadFrom shape g.element part.0) whole part.2)
+part_whole shape g rs (Some w) v part whole = search rules
 
 pub child_whole : (shape : Shape) (e : Element) (t : TypeId) (rs : List WireRecord) (v : ValueRef) → e ≡ elements.Message t → AllByRecursion IsRecord rs
     → IsChildOf shape t (own (value_field e) rs) v → PartWhole shape (value_field e) rs v
@@ -253,16 +239,7 @@ pub entry_is_read : (shape : Shape) (key : Scalar) (e : Element) (r : WireRecord
     → PartWhole shape (key_field key) rs k → PartWhole shape (value_field e) rs v
     → IsItemKept key k → ItemKept shape e v → IsEntryRead shape key e r (record { key = k; value = v })
 entry_is_read shape key e r rs k v records a b item fits =
-    let k_is : a.0 ≡ leaf_of k = plain_same a.0 (leaf_of k) (a.2 ∙ ap (λ i. Some (item_of i)) (key_seen k (item_is_key key k item))) in (
-      b.0,
-      ap (λ o. option_and_then (λ xs. option_and_then (λ x. option_map (λ y. (x, y)) (entry_part (value_field e) xs)) (entry_part (key_field key) xs))
-          (option_from o)) records
-          ∙ ap (λ o. option_and_then (λ x. option_map (λ y. (x, y)) (entry_part (value_field e) rs)) o) (a.1 ∙ ap (λ l. Some l) k_is)
-          ∙ ap (option_map (λ y. (leaf_of k, y))) b.1,
-      b.2,
-      item,
-      fits,
-    )
+    search (rules, plain_same, key_seen, item_is_key)
 
 -- What was read of the parts of an entry.
 

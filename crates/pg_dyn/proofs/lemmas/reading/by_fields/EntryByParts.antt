@@ -1,5 +1,5 @@
 -- What is read of an entry's records, one by one.
-use Rattle.std.proofs.Common.{◌≡◌, ◌≢◌, ℕ, List, [], ◌∷◌, ◌++◌, map, filter, true, false, true≢false, cond, ◌&&◌, nat_eq, Option, Some, None, Result, is_some, ◌⊎◌, inl, ⊎_elim, refl, ap, sym, subst, ◌∙◌, arith, eq-eqb, ne_eqb}
+use Rattle.std.proofs.Common.{◌≡◌, ◌≢◌, ℕ, List, [], ◌∷◌, ◌++◌, map, filter, true, false, true≢false, cond, Option, Some, None, Result, is_some, ◌⊎◌, inl, refl, ap, sym, subst, ◌∙◌, arith, eq-eqb, ne_eqb, rules}
 use Rattle.std.specs.List.{AllByRecursion}
 use Rattle.std.proofs.Math.Bool.{and-false}
 use Rattle.std.proofs.lemmas.Bool.{and_parts}
@@ -8,7 +8,6 @@ use Rattle.pg_schema.specs.declared.parts.field.Element.{Element}
 use Rattle.pg_schema.specs.declared.parts.field.Element.TheVariants as elements
 use Rattle.pg_schema.specs.declared.parts.field.Presence.TheVariants as presences
 use Rattle.pg_schema.specs.declared.parts.field.Scalar.{Scalar}
-use Rattle.pg_schema.specs.declared.parts.field.Scalar.TheVariants.{Int32}
 use Rattle.pg_schema.specs.Shape.{FieldShape, Shape}
 use Rattle.pg_wire.specs.declared.error.WireError.{WireError}
 use Rattle.pg_wire.specs.declared.record.Record.{Record}
@@ -28,7 +27,6 @@ use Rattle.pg_dyn.specs.message.Message.{Leaf}
 use Rattle.pg_dyn.specs.reading.ReadingOn.{IsNoMessage}
 use Rattle.pg_dyn.specs.message_ref.BorrowedItems.{IsItemKept}
 use Rattle.pg_dyn.specs.message_ref.Borrowed.{leaf_of}
-use Rattle.pg_dyn.specs.reading.Steps.{item_of}
 use Rattle.pg_dyn.proofs.lemmas.reading.FieldKinds.{form_as, no_both}
 use Rattle.pg_dyn.proofs.lemmas.reading.records.FieldRecords.{own_leaves, reads_scalar}
 use Rattle.pg_dyn.proofs.lemmas.message_ref.BorrowedItems.{item_is_key, key_seen}
@@ -37,9 +35,7 @@ use Rattle.pg_dyn.proofs.lemmas.reading.records.ReadsOn.{singular_on}
 use Rattle.pg_dyn.proofs.lemmas.reading.records.RecordFronts.{Front}
 
 pub item_as : (shape : Shape) (e : Element) (v : ValueRef) → IsNoMessage e → IsItemKept (read_as e) v → ItemKept shape e v
-item_as shape (elements.Scalar s) v h item = item
-item_as shape (elements.Enum x) v h item = item
-item_as shape (elements.Message t) v h item = absurd h
+item_as shape e v h item = grind arith
 
 -- an explicit field of an entry
 abbrev explicit : ℕ → Element → FieldShape
@@ -60,9 +56,7 @@ not_accepted : (n : ℕ) (e : Element) (r : WireRecord) → same_wire r.wire (fo
 not_accepted n e r other = rw (other, and-false (same_wire r.wire Len))
 
 pub not_explicit : (n : ℕ) (e : Element) (r : WireRecord) → (r.number ≢ n) ⊎ (same_wire r.wire (form_wire (form e)) ≡ false) → takes (explicit n e) r ≡ false
-not_explicit n e r h =
-    ⊎_elim (λ apart. ap (λ b. b && is_accepted (explicit n e) r) (ne_eqb r.number n apart))
-    (λ other. ap (λ b. nat_eq r.number n && b) (not_accepted n e r other) ∙ and-false (nat_eq r.number n)) h
+not_explicit n e r h = search (rules, ne_eqb, not_accepted, and-false)
 
 other_number : (m n : ℕ) (e : Element) (r : WireRecord) → r.number ≡ m → m ≢ n → takes (explicit n e) r ≡ false
 other_number m n e r is apart = not_explicit n e r (inl (λ k. apart (sym is ∙ k)))
@@ -84,9 +78,7 @@ some_leaves shape e o None h = ([], h)
 some_leaves shape e o (Some v) h = (h.0 ∷ [], h.1)
 
 plain_read : (shape : Shape) (e : Element) (v : ValueRef) → IsNoMessage e → ItemKept shape e v → IsReadFrom shape e (leaf_of v) v
-plain_read shape (elements.Scalar s) v h fits = ap (λ i. Some (item_of i)) (sym (key_seen v (item_is_key s v fits)))
-plain_read shape (elements.Enum x) v h fits = ap (λ i. Some (item_of i)) (sym (key_seen v (item_is_key Int32 v fits)))
-plain_read shape (elements.Message t) v h fits = absurd h
+plain_read shape e v h fits = grind (arith, key_seen, item_is_key)
 
 module _ (n : ℕ) (e : Element) (scalar : IsNoMessage e) (rs : List WireRecord) (r : WireRecord) (at : r.number ≡ n)
     (own : same_wire r.wire (form_wire (form e)) ≡ true) (v : ValueRef) (leaf : leaf_in (scalar_form (read_as e)) r.body ≡ Some (leaf_of v))

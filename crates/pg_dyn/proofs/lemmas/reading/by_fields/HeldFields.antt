@@ -1,5 +1,5 @@
 -- What a field holds together: one item, a list, or entries by rising key.
-use Rattle.std.proofs.Common.{Global, Vec, ◌≡◌, ◌≢◌, List, [], map, true, false, Some, None, refl, ap, sym, subst}
+use Rattle.std.proofs.Common.{Global, Vec, ◌≡◌, ◌≢◌, List, [], map, true, false, Some, None, refl, ap, sym, subst, rules, arith}
 use Rattle.std.specs.List.{AllByRecursion}
 use Rattle.pg_schema.specs.declared.parts.field.Presence.{Presence}
 use Rattle.pg_schema.specs.declared.parts.field.Presence.TheVariants as presences
@@ -11,7 +11,6 @@ use Rattle.pg_schema.specs.rules.Fields.{is_key}
 use Rattle.pg_dyn.specs.declared.message_ref.ContentRef.TheVariants as contents
 use Rattle.pg_dyn.specs.declared.message_ref.EntryRef.{EntryRef}
 use Rattle.pg_dyn.specs.declared.message_ref.ValueRef.{ValueRef}
-use Rattle.pg_dyn.specs.declared.message_ref.ValueRef.TheVariants as values
 use Rattle.pg_dyn.specs.declared.number_list.NumberList.{NumberList}
 use Rattle.pg_dyn.specs.fitting.Belonging.{KeyFits}
 use Rattle.pg_dyn.specs.message_ref.Borrowed.{IsMapKey, entry_part, item_part, item_seen}
@@ -25,54 +24,27 @@ use Rattle.pg_dyn.proofs.Lists.{each_weaker}
 use Rattle.pg_dyn.proofs.lemmas.fitting.PartsToFits.{list_holds, listed_keyless, map_holds}
 
 keyless : (p : Presence) → is_map p ≡ false → KeyFits p None
-keyless presences.Implicit h = refl
-keyless presences.Explicit h = refl
-keyless (presences.Repeated packed) h = refl
-keyless (presences.Map key) h = absurd (cc)
+keyless p h = grind arith
 
 -- items of lists and of maps may be zero, and so may messages
 list_zero : (p : Presence) (item : KeptItem) → is_repeated p ≡ true → LeafMayBeZero p item
-list_zero presences.Implicit item h = absurd (cc)
-list_zero presences.Explicit item h = absurd (cc)
-list_zero (presences.Repeated packed) (Plain listed leaf) h = tt
-list_zero (presences.Repeated packed) (Msg listed child) h = tt
-list_zero (presences.Map key) item h = absurd (cc)
+list_zero p item h = grind arith
 
 map_zero : (p : Presence) (key : Scalar) (item : KeptItem) → p ≡ presences.Map key → LeafMayBeZero p item
 map_zero p key (Plain listed leaf) is = rw is tt
 map_zero p key (Msg listed child) is = tt
 
 pub child_zero : (shape : Shape) (t : TypeId) (p : Presence) (v : ValueRef) → ItemKept shape (elements.Message t) v → LeafMayBeZero p (item_seen false v)
-child_zero shape t p (values.Int x) h = absurd h
-child_zero shape t p (values.F32 x) h = absurd h
-child_zero shape t p (values.F64 x) h = absurd h
-child_zero shape t p (values.Text x) h = absurd h
-child_zero shape t p (values.Bytes x) h = absurd h
-child_zero shape t p (values.Msg x) h = tt
+child_zero shape t p v h = grind arith
 
 module _ (shape : Shape) (f : FieldShape) where
   pub one_held : (v : ValueRef) → is_repeated f.presence ≡ false → is_map f.presence ≡ false → ItemKept shape f.element v
       → LeafMayBeZero f.presence (item_seen false v) → HeldFits shape f (Some (contents.One v))
-  one_held v singular no_map fits zero = (
-    record {
-      each = (record { number_is = refl; key_fits = keyless f.presence no_map; item = value_holds shape f false v singular fits zero }, tt);
-      in_order = (tt, tt);
-    },
-    tt,
-    tt,
-  )
+  one_held v singular no_map fits zero = search (rules, keyless, value_holds)
 
   list_fits : (vs : List ValueRef) → is_repeated f.presence ≡ true → AllByRecursion (ItemKept shape f.element) vs → FieldHolds shape f (map (item_part f.number true) vs)
   list_fits vs repeated fit =
-      list_holds shape f (item_part f.number true) repeated (λ v. refl) vs
-      (each_weaker (ItemKept shape f.element) (λ (v : ValueRef). IsPartOf shape f (item_part f.number true v)) one vs fit)
-    where
-      one : (v : ValueRef) → ItemKept shape f.element v → IsPartOf shape f (item_part f.number true v)
-      one v h = record {
-        number_is = refl;
-        key_fits = listed_keyless f.presence repeated;
-        item = value_holds shape f true v repeated h (list_zero f.presence (item_seen false v) repeated);
-      }
+      search (rules, list_holds, each_weaker, listed_keyless, value_holds, list_zero)
 
   pub list_held : (vs : Vec ValueRef Global) → is_repeated f.presence ≡ true → AllByRecursion (ItemKept shape f.element) vs.items → vs.items ≢ []
       → HeldFits shape f (Some (contents.Many vs))

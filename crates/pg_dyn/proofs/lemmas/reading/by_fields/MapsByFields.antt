@@ -1,9 +1,7 @@
 -- What a map field holds, from the entries that its records are read as.
-use Rattle.std.proofs.Common.{◌≡◌, ◌≢◌, ℕ, List, [], ◌∷◌, ◌++◌, map, fold, true, Option, Some, option_map, option_and_then, refl, ap, ap₂, sym, subst, ◌∙◌}
+use Rattle.std.proofs.Common.{◌≡◌, ◌≢◌, ℕ, List, [], ◌∷◌, ◌++◌, map, fold, true, Option, Some, option_map, option_and_then, refl, ap, sym, subst, ◌∙◌, rules}
 use Rattle.std.specs.Prelude.{⊤}
 use Rattle.std.specs.List.{AllByRecursion}
-use Rattle.std.specs.declared.cmp.Ordering.{Ordering}
-use Rattle.std.specs.declared.cmp.Ordering.TheVariants.{Less, Equal, Greater}
 use Rattle.pg_schema.specs.declared.parts.field.Scalar.{Scalar}
 use Rattle.pg_schema.specs.declared.parts.field.Element.{Element}
 use Rattle.pg_schema.specs.declared.parts.field.Presence.{Presence}
@@ -21,7 +19,7 @@ use Rattle.pg_dyn.specs.reading.Decoding.{dec, read_part}
 use Rattle.pg_dyn.specs.reading.Normalized.{place, placed}
 use Rattle.pg_dyn.specs.reading.EntrySteps.{IsReadFrom}
 use Rattle.pg_dyn.specs.reading.Held.{IsMapOf}
-use Rattle.pg_dyn.specs.message.Message.{Leaf, Part, key_cmp}
+use Rattle.pg_dyn.specs.message.Message.{Leaf, Part}
 use Rattle.pg_dyn.specs.reading.Optional.{all_some}
 use Rattle.pg_dyn.specs.message_ref.Borrowed.{entry_part}
 use Rattle.pg_dyn.specs.reading.Steps.{HeldFits, part_of}
@@ -91,16 +89,7 @@ module _ (shape : Shape) (key : Scalar) (element : Element) where
   put_along l e [] [] one h = (one, tt)
   put_along l e [] (f ∷ es) one h = absurd h
   put_along l e (k ∷ ls) [] one h = absurd h
-  put_along l e (k ∷ ls) (f ∷ es) one h = of (put_along l e ls es one h.1) (key_cmp (key_of e) (key_of f)) refl
-    where
-      same : key_cmp l.0 k.0 ≡ key_cmp (key_of e) (key_of f)
-      same = ap₂ key_cmp one.0 h.0.0
-
-      of : AreAlongside (put l ls) (place key_of e es) → (o : Ordering) → key_cmp (key_of e) (key_of f) ≡ o
-          → AreAlongside (put l (k ∷ ls)) (place key_of e (f ∷ es))
-      of rest Less is = rw (is, same ∙ is) (one, h)
-      of rest Equal is = rw (is, same ∙ is) (one, h.1)
-      of rest Greater is = rw (is, same ∙ is) (h.0, rest)
+  put_along l e (k ∷ ls) (f ∷ es) one h = search (rules, put_along l e ls es one h.1)
 
   all_along : (ls before_leaves : List (Leaf × Leaf)) (es before : List EntryRef) → AreAlongside before_leaves before → AreAlongside ls es
       → AreAlongside (fold (λ entries l. put l entries) before_leaves ls) (placed key_of before es)
@@ -120,8 +109,7 @@ module _ (shape : Shape) (key : Scalar) (element : Element) where
 
 content_of_map : (n : ℕ) (p : Presence) (e : Element) (o : Option ℕ) (rs : List WireRecord) (key : Scalar) → p ≡ presences.Map key
     → content (field_of n p e o) rs ≡ option_map (λ ls. map (leaf_part n) (by_key ls)) (all_some (map (entry_in key e) rs))
-content_of_map n p e o rs key is =
-    subst (λ q. content (field_of n q e o) rs ≡ option_map (λ ls. map (leaf_part n) (by_key ls)) (all_some (map (entry_in key e) rs))) (sym is) refl
+content_of_map n p e o rs key is = search (rules, field_of)
 
 -- The field holds the entries by rising key, of each key the last.
 pub map_holds : (shape : Shape) (f : FieldShape) (key : Scalar) (rs : List WireRecord) (es : List EntryRef) (c : ContentRef)

@@ -1,10 +1,10 @@
 -- The entries of a map are read again from the records that are written of them.
-use Rattle.std.proofs.Common.{◌≡◌, ℕ, ◌+◌, ◌*◌, ◌^◌, ◌<◌, ◌≤◌, List, ◌++◌, length, Some, Ok, refl, ap, sym, arith, append-nil, length-append}
+use Rattle.std.proofs.Common.{◌≡◌, ℕ, ◌+◌, ◌*◌, ◌^◌, ◌<◌, ◌≤◌, List, ◌++◌, length, Some, Ok, refl, ap, sym, arith, append-nil, length-append, rules}
 use Rattle.pg_schema.specs.declared.parts.field.Scalar.{Scalar}
 use Rattle.pg_schema.specs.declared.parts.field.Element.{Element}
 use Rattle.pg_schema.specs.declared.parts.field.Element.TheVariants as elements
 use Rattle.pg_wire.specs.declared.record.WireType.{WireType}
-use Rattle.pg_wire.specs.declared.record.WireType.TheVariants.{Varint, I64, Len, I32}
+use Rattle.pg_wire.specs.declared.record.WireType.TheVariants.{Len}
 use Rattle.pg_wire.specs.Records.{IsRecord, written, wire_code, tag, length_before, records_of}
 use Rattle.pg_wire.proofs.Varints.{length-varint_positive}
 use Rattle.pg_wire.proofs.RecordLaws.{BodyFits, IsRecord-written, records_of_Spells}
@@ -17,10 +17,7 @@ use Rattle.pg_dyn.proofs.lemmas.word.Codings.{Reads}
 use Rattle.pg_dyn.proofs.lemmas.message.Plain.{same_wire_self, plain_content_one}
 
 pub BodyFits-from_shape : (wire : WireType) (bytes : List ℕ) → HasShape wire bytes → length bytes < 2 ^ 64 → BodyFits wire bytes
-BodyFits-from_shape Varint bytes h fits = h
-BodyFits-from_shape I64 bytes h fits = h
-BodyFits-from_shape Len bytes h fits = fits
-BodyFits-from_shape I32 bytes h fits = h
+BodyFits-from_shape wire bytes h fits = grind arith
 
 -- a record's body is shorter than its bytes
 pub length_body-written : (number : ℕ) (wire : WireType) (bytes : List ℕ) → length bytes < length (written number wire bytes).bytes
@@ -32,8 +29,7 @@ IsRecord-with : (number : ℕ) (e : Element) (bytes : List ℕ) (leaf : Leaf) �
 IsRecord-with number e bytes leaf low high reads fits = IsRecord-written number (form_wire (form e)) bytes low high (BodyFits-from_shape (form_wire (form e)) bytes reads.shape fits)
 
 pub IsRecord-item_record : (number : ℕ) (e : Element) (leaf : Leaf) → 1 ≤ number → number < 2 ^ 29 → Reads (form e) leaf → length (body (form e) leaf) < 2 ^ 64 → IsRecord (item_record number e leaf)
-IsRecord-item_record number e leaf low high reads fits =
-    IsRecord-with number e (body (form e) leaf) leaf low high reads fits
+IsRecord-item_record number e leaf low high reads fits = search (rules, IsRecord-with)
 
 module _ (key : Scalar) (e : Element) (k v : List ℕ × Leaf) (reads_key : IsReadAs (form (elements.Scalar key)) k.0 k.1) (reads_value : IsReadAs (form e) v.0 v.1) (nested : IsNestedLeaf e v.1) where
   pub records_of_entry : length (entry_body key e k.0 v.0) < 2 ^ 64 → records_of (entry_body key e k.0 v.0) ≡ Ok (two_records key e k.0 v.0)

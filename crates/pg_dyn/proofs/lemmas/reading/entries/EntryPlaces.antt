@@ -3,20 +3,17 @@ use Rattle.std.proofs.Common.{◌≡◌, ℕ, zero, suc, ◌<◌, ◌≤◌, Lis
 use Rattle.std.specs.List.{AllByRecursion, insert}
 use Rattle.std.proofs.lemmas.List.{take-append-drop}
 use Rattle.std.proofs.lemmas.Cmp.{int_cmp_total, nat_list_cmp_total}
-use Rattle.std.specs.Ordering.{ordering_reverse}
 use Rattle.std.specs.declared.cmp.Ordering.{Ordering}
 use Rattle.std.specs.declared.cmp.Ordering.TheVariants.{Less, Equal, Greater}
 use Rattle.pg_dyn.specs.message.KeyOrder.{Rise}
-use Rattle.pg_dyn.specs.message.Message.{Leaf, Int, Bytes, key_cmp}
+use Rattle.pg_dyn.specs.message.Message.{Leaf, key_cmp}
 use Rattle.pg_dyn.specs.reading.Normalized.{place}
 use Rattle.pg_dyn.proofs.lemmas.fitting.FitsSteps.{key_trans}
 use Rattle.pg_dyn.proofs.lemmas.reading.Fields.{above_from_less}
 use Rattle.pg_dyn.proofs.Lists.{each_weaker}
 
 pub less_from_above : (k l : Leaf) → key_cmp k l ≡ Greater → key_cmp l k ≡ Less
-less_from_above (Int m) (Int n) h = int_cmp_total.antisymm n m ∙ ap ordering_reverse h
-less_from_above (Bytes a) (Bytes b) h = nat_list_cmp_total.antisymm b a ∙ ap ordering_reverse h
-less_from_above k l h = absurd (cc)
+less_from_above k l h = grind (arith, int_cmp_total, nat_list_cmp_total)
 
 module _ {A : Type 0} (key : A → Leaf) where
   abbrev pub Below : Leaf → A → Type 0

@@ -1,10 +1,9 @@
 -- Entries of a map that are put in one by one, as the reader keeps them.
-use Rattle.std.proofs.Common.{◌≡◌, ◌≢◌, ◌<◌, List, [], ◌∷◌, ◌++◌, length, filter, Bool, true, false, not, cond, ◌&&◌, refl, ap, ap₂, sym, subst, ◌∙◌, arith}
+use Rattle.std.proofs.Common.{◌≡◌, ◌≢◌, ◌<◌, List, [], ◌∷◌, ◌++◌, length, filter, Bool, true, false, cond, refl, ap, ap₂, sym, subst, ◌∙◌, arith, rules}
 use Rattle.std.specs.List.{AllByRecursion}
 use Rattle.std.specs.List.Sorted.{IsPermutation, IsStableBy, ties}
-use Rattle.std.specs.Ordering.{is_lt, ordering_reverse}
 use Rattle.std.specs.declared.cmp.Ordering.{Ordering}
-use Rattle.std.specs.declared.cmp.Ordering.TheVariants.{Less, Equal, Greater}
+use Rattle.std.specs.declared.cmp.Ordering.TheVariants.{Less, Equal}
 use Rattle.pg_dyn.specs.declared.message_ref.EntryRef.{EntryRef}
 use Rattle.pg_dyn.specs.message_ref.BorrowedItems.{AreAlike, IsAlike, KeysRise, key_of, ranks_below}
 use Rattle.pg_dyn.specs.message.KeyOrder.{IsOfKind, Rise, rank_cmp}
@@ -33,12 +32,7 @@ each_normalized P es h = each_put P [] es tt h
 -- and some where there are some
 with_some : (e : EntryRef) (es : List EntryRef) → 0 < length (place key_of e es)
 with_some e [] = omega arith
-with_some e (x ∷ es) = of (key_cmp (key_of e) (key_of x)) refl
-  where
-    of : (o : Ordering) → key_cmp (key_of e) (key_of x) ≡ o → 0 < length (place key_of e (x ∷ es))
-    of Less is = rw is (omega arith)
-    of Equal is = rw is (omega arith)
-    of Greater is = rw is (omega arith)
+with_some e (x ∷ es) = search (rules, arith)
 
 some_before : (before es : List EntryRef) → 0 < length before → 0 < length (placed key_of before es)
 some_before before [] h = h
@@ -72,35 +66,21 @@ rising_stay es alike rise =
 
 module _ (b : Bool) (z : EntryRef) (of_kind : IsOfKind b (key_of z)) where
   self_equal : rank_cmp (key_of z) (key_of z) ≡ Equal
-  self_equal = of (rank_cmp (key_of z) (key_of z)) refl
-    where
-      of : (o : Ordering) → rank_cmp (key_of z) (key_of z) ≡ o → rank_cmp (key_of z) (key_of z) ≡ Equal
-      of Less is = absurd (let flipped : Less ≡ Greater = sym is ∙ rank_total.antisymm (key_of z) (key_of z) ∙ ap ordering_reverse is in cc)
-      of Equal is = is
-      of Greater is = absurd (let flipped : Greater ≡ Less = sym is ∙ rank_total.antisymm (key_of z) (key_of z) ∙ ap ordering_reverse is in cc)
+  self_equal = search (rules, rank_total)
 
   not_same : (y : EntryRef) (o : Ordering) → rank_cmp (key_of z) (key_of y) ≡ o → (o ≡ Equal → ⊥) → leaf_eq (key_of y) (key_of z) ≡ false
-  not_same y o is apart = of (leaf_eq (key_of y) (key_of z)) refl
-    where
-      of : (t : Bool) → leaf_eq (key_of y) (key_of z) ≡ t → leaf_eq (key_of y) (key_of z) ≡ false
-      of false hit = hit
-      of true hit = absurd (apart (sym is ∙ ap (rank_cmp (key_of z)) (same_leaf (key_of y) (key_of z) hit) ∙ self_equal))
+  not_same y o is apart = search (rules, same_leaf, self_equal)
 
   tied : (y : EntryRef) → IsOfKind b (key_of y) → ties ranks_below z y ≡ leaf_eq (key_of y) (key_of z)
-  tied y k = of (rank_cmp (key_of z) (key_of y)) refl
-    where
-      back : (o : Ordering) → rank_cmp (key_of z) (key_of y) ≡ o → rank_cmp (key_of y) (key_of z) ≡ ordering_reverse o
-      back o is = rank_total.antisymm (key_of y) (key_of z) ∙ ap ordering_reverse is
-
-      both : (o : Ordering) → rank_cmp (key_of z) (key_of y) ≡ o → ties ranks_below z y ≡ (not (is_lt o) && not (is_lt (ordering_reverse o)))
-      both o is = ap₂ (λ p q. not (is_lt p) && not (is_lt q)) is (back o is)
-
-      of : (o : Ordering) → rank_cmp (key_of z) (key_of y) ≡ o → ties ranks_below z y ≡ leaf_eq (key_of y) (key_of z)
-      of Less is = both Less is ∙ sym (not_same y Less is (λ e. cc))
-      of Greater is = both Greater is ∙ sym (not_same y Greater is (λ e. cc))
-      of Equal is =
-          both Equal is
-          ∙ sym (ap (leaf_eq (key_of y)) (equal_leaves (key_of z) (key_of y) (same_kind b (key_of z) (key_of y) of_kind k) is) ∙ leaf_eq_self (key_of y))
+  tied y k =
+      search (
+        rules,
+        rank_total,
+        not_same y,
+        equal_leaves (key_of z) (key_of y) (same_kind b (key_of z) (key_of y) of_kind k),
+        same_kind b (key_of z) (key_of y) of_kind k,
+        leaf_eq_self (key_of y),
+      )
 
   filter_tied : (es : List EntryRef) → OfKind key_of b es → filter (ties ranks_below z) es ≡ filter (has_key key_of (key_of z)) es
   filter_tied [] h = refl
@@ -147,9 +127,4 @@ all_put all before rest is h = ap (placed key_of before) (sym is) ∙ h.all_is
 
 -- the next is alike to those before it
 pub next_alike : (all before rest later : List EntryRef) (e : EntryRef) → rest ≡ e ∷ later → NormalizesTo all before rest → IsAlike (key_of e) before
-next_alike all before rest later e is h =
-    let alike = subst (λ xs. AreAlike (before ++ xs)) is h.alike in (
-      alike.0,
-      (each_after (λ (x : EntryRef). IsOfKind alike.0 (key_of x)) before (e ∷ later) alike.1).0,
-      each_before (λ (x : EntryRef). IsOfKind alike.0 (key_of x)) before (e ∷ later) alike.1,
-    )
+next_alike all before rest later e is h = search (rules, each_after, each_before)

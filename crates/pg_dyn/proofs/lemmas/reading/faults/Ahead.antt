@@ -1,6 +1,5 @@
 -- Going over the records of bytes, of a message or of an entry, in search of a fault.
-use Rattle.std.proofs.Common.{◌≡◌, ℕ, suc, ◌+◌, ◌<◌, ◌≤◌, ◌^◌, List, [], ◌∷◌, ◌++◌, length, true, Option, Some, None, Result, Ok, Err, refl, ap, sym, subst, ◌∙◌, arith, length-append}
-use Rattle.std.specs.Prelude.{IsSomeAnd}
+use Rattle.std.proofs.Common.{◌≡◌, ℕ, suc, ◌+◌, ◌<◌, ◌≤◌, ◌^◌, List, [], ◌∷◌, ◌++◌, length, true, Result, Ok, Err, refl, ap, sym, subst, ◌∙◌, arith, length-append, rules}
 use Rattle.std.specs.List.{AllByRecursion}
 use Rattle.pg_schema.specs.Shape.{Shape, FieldShape}
 use Rattle.pg_wire.specs.declared.error.WireError.{WireError}
@@ -14,7 +13,6 @@ use Rattle.pg_dyn.specs.declared.error.DynError.TheVariants as errors
 use Rattle.pg_dyn.specs.reading.Decoding.{all_readable, dec}
 use Rattle.pg_dyn.specs.reading.Faults.{AreRead, Code, FirstFault, FirstFaultOf, Wire, no_record}
 use Rattle.pg_dyn.specs.reading.Faults as faults
-use Rattle.pg_dyn.specs.reading.Refusals.{fault_named}
 use Rattle.pg_dyn.specs.reading.Steps.{RefusedBy, RefusedIn, RefusedRecord, Taken, IsShallowRecord, IsShallowIn}
 use Rattle.pg_dyn.proofs.lemmas.reading.by_fields.BodiesByFields.{shallow_from_records}
 use Rattle.pg_dyn.proofs.lemmas.reading.DecodeLoop.{err_step}
@@ -26,12 +24,7 @@ use Rattle.pg_dyn.proofs.lemmas.reading.records.RecordFronts.{Front, all_read, b
 module _ (HasPart HasWhole : Code → ℕ → Type 0) (base k at : ℕ) (there : at ≡ base + k) where
   pub refused_on : ((code : Code) (p : ℕ) → HasPart code p → HasWhole code (k + p)) → (e : DynError)
       → RefusedBy HasPart at e → RefusedBy HasWhole base e
-  refused_on fault e = of (fault_named e)
-    where
-      of : (named : Option (Code × ℕ)) → IsSomeAnd named (λ (x : Code × ℕ). (p : ℕ) × (x.1 ≡ at + p) × HasPart x.0 p)
-          → IsSomeAnd named (λ (x : Code × ℕ). (p : ℕ) × (x.1 ≡ base + p) × HasWhole x.0 p)
-      of None h = h
-      of (Some x) h = (k + h.0, let e = h.1 in omega arith, fault x.0 h.0 h.2)
+  refused_on fault e = search (rules, arith)
 
 -- The bytes from a start, of which a front is gone over: its records are readable, and nothing in them is too deep.
 pub record Ahead (shape : Shape) (levels : ℕ) (fs : List FieldShape) (bytes : List ℕ) (start at : ℕ) (left : List (Result WireRecord WireError)) : Type 0 where
@@ -47,12 +40,7 @@ module _ (shape : Shape) (levels : ℕ) (fs : List FieldShape) (bytes : List ℕ
 
   module _ (at : ℕ) (left : List (Result WireRecord WireError)) (a : Ahead shape levels fs bytes start at left) where
     front_is : AreRead shape (suc levels) fs a.seen.front
-    front_is = record {
-      records = a.records;
-      spelled = a.seen.spelled;
-      readable = a.readable;
-      shallow = shallow_from_records shape levels fs a.seen.front a.records (records_of_Spells a.seen.front a.records a.seen.spelled) a.shallow;
-    }
+    front_is = search (rules, shallow_from_records, records_of_Spells)
 
     pub all_records : left ≡ [] → records_of bytes ≡ Ok a.records
     all_records = all_read bytes left a.records a.seen
@@ -73,10 +61,7 @@ module _ (shape : Shape) (levels : ℕ) (fs : List FieldShape) (bytes : List ℕ
       stop_room room = let s = stop in let p = s.1 in let q = s.3 in omega arith
 
       pub stopped : RefusedIn shape (suc levels) fs bytes start (errors.Wire (error_at (fault_of e) (place_of e + start)))
-      stopped =
-          let s = stop in
-          let k = fault_of-error_at (fault_of e) (place_of e + start) in
-          (s.0, (let p = s.1 in let q = k.1 in omega arith), subst (λ f. FirstFault shape (suc levels) fs bytes (Wire f) s.0) (sym k.0) s.2)
+      stopped = search (rules, arith, stop, fault_of-error_at)
 
     module _ (r : WireRecord) (later : List (Result WireRecord WireError)) (h : left ≡ Ok r ∷ later) where
       pub is_record : IsRecord r

@@ -1,5 +1,5 @@
 -- The steps of looking for faults in the entries of maps.
-use Rattle.std.proofs.Common.{◌≡◌, ℕ, suc, ◌+◌, List, [], filter, Bool, true, false, None, Some, is_some, option_and_then, if◌then◌else◌, Ok, Result, OnOk, IfErr, refl, ap, sym, subst, ◌∙◌, arith, eqb-true}
+use Rattle.std.proofs.Common.{◌≡◌, ℕ, suc, ◌+◌, List, [], filter, Bool, true, false, Some, Ok, Result, OnOk, IfErr, refl, sym, subst, arith, eqb-true, rules}
 use Rattle.std.specs.Bool.{⊤}
 use Rattle.std.proofs.lemmas.Result.{IfErr-weaker, on_ok_weaker}
 use Rattle.pg_schema.specs.declared.parts.field.TypeId.{TypeId}
@@ -15,8 +15,8 @@ use Rattle.pg_dyn.specs.declared.error.DynError.{DynError}
 use Rattle.pg_dyn.specs.declared.error.DynError.TheVariants as errors
 use Rattle.pg_dyn.specs.declared.reading.faults.Holder.{Holder}
 use Rattle.pg_dyn.specs.declared.reading.faults.Holder.TheVariants as holders
-use Rattle.pg_dyn.specs.reading.Content.{is_accepted, option_from, takes, value_field, entry_fields}
-use Rattle.pg_dyn.specs.reading.Decoding.{all_plain_readable, all_readable, dec, is_readable}
+use Rattle.pg_dyn.specs.reading.Content.{is_accepted, takes, value_field, entry_fields}
+use Rattle.pg_dyn.specs.reading.Decoding.{all_readable, dec}
 use Rattle.pg_dyn.specs.reading.Faults.{AreRead, FirstFault, FirstFaultOf, body_start}
 use Rattle.pg_dyn.specs.reading.Faults as faults
 use Rattle.pg_dyn.specs.inner.FaultSteps.{HolderReads, ItemReads, held_fields, part_field}
@@ -62,11 +62,7 @@ module _ (shape : Shape) (levels : ℕ) (f : FieldShape) (r : WireRecord) (key :
       (λ code p x. faults.in_entry levels f r key code p is x) e h
 
   pub entry_reads : HolderReads shape (holders.Entry key f.element) r.body → FieldReads shape f r
-  entry_reads reads =
-      let (rs, are, readable) = reads in
-      subst (λ p. is_readable (dec shape) (record { number = f.number; presence = p; element = f.element; oneof = f.oneof }) r ≡ true) (sym is)
-      (ap (λ o. is_some (option_and_then (λ ss. if all_plain_readable (dec shape) (entry_fields key f.element) ss then Some ss else None) (option_from o))) are
-      ∙ ap (λ b. is_some (if b then Some rs else None)) readable)
+  entry_reads reads = search rules
 
   -- where nothing is too deep in an entry on the last level, it has no value that is a message
   pub value_missing : (t : TypeId) (at : ℕ) → HolderReads shape (holders.Entry key f.element) r.body

@@ -1,5 +1,5 @@
 -- The steps of looking for faults: of a record and of its item.
-use Rattle.std.proofs.Common.{◌≡◌, ℕ, suc, ◌+◌, List, [], ◌∷◌, Bool, true, false, ◌&&◌, Option, Some, None, is_some, option_map, Result, Ok, Err, OnOk, IfErr, refl, ap, ap₂, sym, subst, ◌∙◌, arith, zero-add}
+use Rattle.std.proofs.Common.{◌≡◌, ℕ, suc, ◌+◌, List, [], ◌∷◌, Bool, true, false, ◌&&◌, Some, is_some, Result, Ok, Err, OnOk, IfErr, refl, ap, ap₂, sym, subst, ◌∙◌, arith, zero-add, rules}
 use Rattle.std.specs.Bool.{⊤}
 use Rattle.std.specs.Str.{is_utf8}
 use Rattle.pg_schema.specs.declared.parts.field.TypeId.{TypeId}
@@ -20,7 +20,6 @@ use Rattle.pg_dyn.specs.reading.Faults.{Wire, FirstFault, FirstFaultOf, body_sta
 use Rattle.pg_dyn.specs.reading.Faults as faults
 use Rattle.pg_dyn.specs.inner.FaultSteps.{ItemReads}
 use Rattle.pg_dyn.specs.reading.Held.{read_as}
-use Rattle.pg_dyn.specs.message.Message.{Leaf}
 use Rattle.pg_dyn.specs.reading.ReadingOn.{IsNoMessage}
 use Rattle.pg_dyn.specs.reading.Steps.{FieldReads, RefusedOf, RefusedIn, RefusedItem, RefusedRecord, RowRefused, Taken, IsShallow, IsShallowIn, IsShallowItem, IsShallowRecord}
 use Rattle.pg_dyn.proofs.lemmas.reading.faults.Ahead.{refused_on}
@@ -42,19 +41,11 @@ plain_reads : (shape : Shape) (f : FieldShape) (r : WireRecord) → is_map f.pre
 plain_reads shape f r no_map there child = readable_is (dec shape) f.number f.presence f.element f.oneof r no_map ∙ ap₂ (λ a b. a && b) there child
 
 own_leaves : (f : FieldShape) (r : WireRecord) → is_own f.element r ≡ true → is_some (leaf_in (form f.element) r.body) ≡ true → is_some (leaves_in f r) ≡ true
-own_leaves f r own there = rw own (of (leaf_in (form f.element) r.body) there)
-  where
-    of : (o : Option Leaf) → is_some o ≡ true → is_some (option_map (λ leaf. leaf ∷ []) o) ≡ true
-    of None h = absurd (cc)
-    of (Some leaf) h = refl
+own_leaves f r own there = search rules
 
 item_reads : (shape : Shape) (e : Element) (r : WireRecord) → is_own e r ≡ true → is_some (leaf_in (form e) r.body) ≡ true
     → is_child (dec shape) e r.body ≡ true → ItemReads shape e r
-item_reads shape e r own there child f no_map is =
-    plain_reads shape f r no_map
-    (own_leaves f r (subst (λ x. is_own x r ≡ true) (sym is) own)
-    (subst (λ x. is_some (leaf_in (form x) r.body) ≡ true) (sym is) there))
-    (subst (λ x. is_child (dec shape) x r.body ≡ true) (sym is) child)
+item_reads shape e r own there child f no_map is = search (rules, plain_reads, own_leaves)
 
 -- Items that are no messages.
 
@@ -76,12 +67,7 @@ pub scalar_checked : (shape : Shape) (levels : ℕ) (e : Element) (r : WireRecor
     → IfErr result (λ x. (x ≡ errors.NotUtf8 at) × (scalar_form s ≡ Text) × (is_utf8 r.body ≡ false))
     → ScalarChecked shape levels e r at result
 scalar_checked shape levels e r at (Ok x) s scalar is own ok err =
-    let same : scalar_form s ≡ form e = ap scalar_form is ∙ sym (form_as e) in
-    record {
-      readable = item_reads shape e r own (subst (λ f. is_some (leaf_in f r.body) ≡ true) same ok) (no_child (dec shape) e r.body scalar);
-      shallow = scalar_shallow shape levels e r scalar;
-      err = tt;
-    }
+    search (rules, form_as, item_reads, no_child, scalar_shallow)
 scalar_checked shape levels e r at (Err x) s scalar is own ok err = record {
   readable = tt;
   shallow = tt;
@@ -96,8 +82,7 @@ message_reads shape t r own h = item_reads shape (elements.Message t) r own refl
 
 pub message_shallow : (shape : Shape) (levels l : ℕ) (t : TypeId) (r : WireRecord) → levels ≡ suc l
     → IsShallowIn shape (suc l) (fields shape t) r.body → IsShallowItem shape levels (elements.Message t) r
-message_shallow shape levels l t r up below f no_map is =
-    body_shallow shape f t is no_map levels r (λ none. absurd (omega arith)) (subst (λ n. IsShallowIn shape n (fields shape t) r.body) (sym up) below)
+message_shallow shape levels l t r up below f no_map is = search (rules, arith, body_shallow)
 
 pub child_refused : (shape : Shape) (levels l : ℕ) (t : TypeId) (r : WireRecord) (at start : ℕ) (e : DynError) → levels ≡ suc l
     → start ≡ at + body_start r → RefusedIn shape (suc l) (fields shape t) r.body start e
@@ -117,9 +102,7 @@ too_deep shape levels t r at none f no_map is =
 module _ (shape : Shape) (f : FieldShape) (r : WireRecord) (no_map : is_map f.presence ≡ false) (packable : is_packable f.element ≡ true)
     (other : is_own f.element r ≡ false) where
   pub row_reads : is_some (packed_leaves (scalar_form (read_as f.element)) r.body) ≡ true → FieldReads shape f r
-  row_reads there =
-      plain_reads shape f r no_map (rw other (subst (λ x. is_some (packed_leaves x r.body) ≡ true) (sym (form_as f.element)) there))
-      (no_child (dec shape) f.element r.body (packable_no_message f.element packable))
+  row_reads there = search (rules, plain_reads, form_as, no_child, packable_no_message)
 
   pub row_shallow : (levels : ℕ) → IsShallow shape levels f r
   row_shallow levels = scalar_shallow shape levels f.element r (packable_no_message f.element packable) f no_map refl
@@ -138,9 +121,7 @@ taken_here fs r f is accepted = record { found = sym is; taken = takes_it f r (f
 
 pub taken_refused : (shape : Shape) (levels : ℕ) (fs : List FieldShape) (r : WireRecord) (f : FieldShape) (at : ℕ) (e : DynError) → Taken fs r f
     → RefusedOf shape levels f r at e → RefusedRecord shape levels fs r at e
-taken_refused shape levels fs r f at e taken h =
-    refused_on (FirstFaultOf shape levels f r) (λ code p. (g : FieldShape) × Taken fs r g × FirstFaultOf shape levels g r code p) at 0 at (omega arith)
-    (λ code p x. (f, taken, subst (λ n. FirstFaultOf shape levels f r code n) (sym (zero-add p)) x)) e h
+taken_refused shape levels fs r f at e taken h = search (rules, arith, refused_on, zero-add)
 
 -- what is known of a record that is looked at, of which no field has to take it
 pub record RecordChecked (shape : Shape) (levels : ℕ) (fs : List FieldShape) (r : WireRecord) (at : ℕ) (result : Result ⊤ DynError) : Type 0 where

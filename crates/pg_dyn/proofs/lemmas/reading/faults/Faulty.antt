@@ -1,13 +1,12 @@
 -- What has a fault has no reading.
-use Rattle.std.proofs.Common.{◌≡◌, ◌≢◌, ℕ, suc, ◌≤◌, List, [], ◌∷◌, ◌++◌, length, true, false, not, ◌&&◌, ◌||◌, cond, Option, Some, None, is_some, option_and_then, Result, Ok, Err, refl, ap, ap₂, sym, ◌∙◌, subst, arith, append_assoc, length-append, nat_eq, ⊎_elim, true≢false}
+use Rattle.std.proofs.Common.{◌≡◌, ◌≢◌, ℕ, suc, ◌≤◌, List, [], ◌∷◌, ◌++◌, length, true, false, not, ◌||◌, cond, Option, Some, None, is_some, option_and_then, Ok, Err, refl, ap, ap₂, sym, ◌∙◌, subst, arith, append_assoc, length-append, true≢false, rules}
 use Rattle.std.specs.List.{AllByRecursion, list_all}
 use Rattle.std.specs.Str.{is_utf8}
 use Rattle.std.proofs.lemmas.Bool.{and_parts, or_cases}
 use Rattle.pg_schema.specs.declared.parts.field.TypeId.{TypeId}
 use Rattle.pg_schema.specs.declared.parts.field.Element.{Element}
 use Rattle.pg_schema.specs.declared.parts.field.Presence.{Presence}
-use Rattle.pg_schema.specs.declared.parts.field.Presence.TheVariants as presences
-use Rattle.pg_schema.specs.Shape.{Shape, FieldShape, fields, field_at, is_map, is_repeated, is_packable}
+use Rattle.pg_schema.specs.Shape.{Shape, FieldShape, fields, field_at, is_map}
 use Rattle.pg_wire.specs.declared.record.WireType.TheVariants.{Len}
 use Rattle.pg_wire.specs.Reading.{Fault, row}
 use Rattle.pg_wire.specs.Records.{WireRecord, IsRecord, Spells, record_at, records_of}
@@ -15,7 +14,7 @@ use Rattle.pg_wire.proofs.Bind.{ok_pair}
 use Rattle.pg_wire.proofs.RecordLaws.{record_at-append, record_at_takes, length-IsRecord, Spells_from_records_of}
 use Rattle.pg_dyn.specs.message.Message.{Message}
 use Rattle.pg_dyn.specs.word.Coding.{Text, form, form_wire, element_at}
-use Rattle.pg_dyn.specs.reading.Content.{same_wire, own_wire, is_accepted, takes, leaves_in, option_from, entry_fields}
+use Rattle.pg_dyn.specs.reading.Content.{same_wire, is_accepted, takes, leaves_in, option_from, entry_fields}
 use Rattle.pg_dyn.specs.encoding.Writing.{bytes_of}
 use Rattle.pg_dyn.specs.reading.Decoding.{Reader, is_child, all_plain_readable, is_readable, all_readable, dec}
 use Rattle.pg_dyn.specs.reading.Faults.{AreRecords, Code, FirstFault, FirstFaultOf, HasFault, FaultOf, NotUtf8, TooDeep, Wire, no_record, in_record, the_root, not_text, bad_element, the_child, in_child, in_entry, missing_value}
@@ -40,13 +39,7 @@ pub record First (bytes : List ℕ) (rs : List WireRecord) : Type 0 where
 
 pub first_of : (bytes : List ℕ) (rs : List WireRecord) → Spells bytes rs → 1 ≤ length bytes → First bytes rs
 first_of bytes [] h some = absurd (let none = ap length h.joined in omega arith)
-first_of bytes (r ∷ rs) h some = record {
-  first = r;
-  others = rs;
-  are = refl;
-  read = ap record_at h.joined ∙ record_at-append r (bytes_of rs) h.each.0;
-  spelled = record { joined = refl; each = h.each.1 };
-}
+first_of bytes (r ∷ rs) h some = search (rules, record_at-append)
 
 -- the records of a front are the first of the whole, and the others spell the back
 pub record Split (back : List ℕ) (front_records rs : List WireRecord) : Type 0 where
@@ -87,27 +80,11 @@ nonempty back r rest h =
 
 -- a string is taken from records of LEN alone
 text_wire : (number : ℕ) (p : Presence) (e : Element) (oneof : Option ℕ) (r : WireRecord) → form e ≡ Text → is_accepted (field_of number p e oneof) r ≡ true → same_wire r.wire Len ≡ true
-text_wire number p e oneof r is h =
-    ⊎_elim (λ own. own_len p own) (λ packed. (and_parts (same_wire r.wire Len) _ (rest packed)).0)
-    (or_cases (same_wire r.wire (own_wire (field_of number p e oneof))) _ h)
-  where
-    own_len : (x : Presence) → same_wire r.wire (own_wire (field_of number x e oneof)) ≡ true → same_wire r.wire Len ≡ true
-    own_len presences.Implicit k = subst (λ f. same_wire r.wire (form_wire f) ≡ true) is k
-    own_len presences.Explicit k = subst (λ f. same_wire r.wire (form_wire f) ≡ true) is k
-    own_len (presences.Repeated packed) k = subst (λ f. same_wire r.wire (form_wire f) ≡ true) is k
-    own_len (presences.Map key) k = k
-
-    rest : (same_wire r.wire Len && is_repeated p && is_packable e) ≡ true → (same_wire r.wire Len && is_repeated p) ≡ true
-    rest k = (and_parts (same_wire r.wire Len && is_repeated p) (is_packable e) k).0
+text_wire number p e oneof r is h = search (rules, and_parts, or_cases, field_of)
 
 -- an entry that is readable has records that are
 pub entry_records_of : (child : Reader) (fs : List FieldShape) (bytes : List ℕ) → is_some (option_and_then (λ rs. cond (all_plain_readable child fs rs) (Some rs) None) (option_from (records_of bytes))) ≡ true → (rs : List WireRecord) × (records_of bytes ≡ Ok rs) × (all_plain_readable child fs rs ≡ true)
-entry_records_of child fs bytes h = of (records_of bytes) refl h
-  where
-    of : (found : Result (List WireRecord) Fault) → records_of bytes ≡ found → is_some (option_and_then (λ rs. cond (all_plain_readable child fs rs) (Some rs) None) (option_from found)) ≡ true → (rs : List WireRecord) × (records_of bytes ≡ Ok rs) × (all_plain_readable child fs rs ≡ true)
-    of (Err fault) is g = absurd (cc)
-    of (Ok rs) is g =
-        (rs, is, elim (all_plain_readable child fs rs) as (λ b. is_some (cond b (Some rs) None) ≡ true → b ≡ true) [ true ↦ λ k. refl | false ↦ λ k. k ] g)
+entry_records_of child fs bytes h = search rules
 
 module _ (shape : Shape) where
   -- what the reading of all records says of the one at the back
@@ -129,18 +106,11 @@ module _ (shape : Shape) where
 
   text_unreadable : (f : FieldShape) (r : WireRecord) → is_map f.presence ≡ false → form f.element ≡ Text → is_utf8 r.body ≡ false → takes f r ≡ true → is_readable (dec shape) f r ≡ true → ⊥
   text_unreadable f r no_map is bad taken readable =
-      let plain = sym (readable_is (dec shape) f.number f.presence f.element f.oneof r no_map) ∙ readable in
-      let some = (and_parts (is_some (leaves_in f r)) (is_child (dec shape) f.element r.body) plain).0 in
-      let wire : same_wire r.wire Len ≡ true = text_wire f.number f.presence f.element f.oneof r is (and_parts (nat_eq r.number f.number) (is_accepted f r) taken).1 in
-      let none : leaves_in f r ≡ None = rw (is, wire, bad) refl in
-      true≢false (sym some ∙ ap is_some none)
+      search (rules, readable_is, and_parts, text_wire, true≢false)
 
   element_unreadable : (f : FieldShape) (r : WireRecord) (fault : Fault) → is_map f.presence ≡ false → same_wire r.wire (form_wire (form f.element)) ≡ false → row (element_at (form_wire (form f.element))) r.body ≡ Err fault → is_readable (dec shape) f r ≡ true → ⊥
   element_unreadable f r fault no_map other bad readable =
-      let plain = sym (readable_is (dec shape) f.number f.presence f.element f.oneof r no_map) ∙ readable in
-      let some = (and_parts (is_some (leaves_in f r)) (is_child (dec shape) f.element r.body) plain).0 in
-      let none : leaves_in f r ≡ None = rw (other, bad) refl in
-      true≢false (sym some ∙ ap is_some none)
+      search (rules, readable_is, and_parts, true≢false)
 
   mutual
     fault_unreadable : (limit : ℕ) (fs : List FieldShape) (bytes : List ℕ) (code : Code) (place : ℕ) → HasFault shape limit fs bytes code place → code ≢ TooDeep

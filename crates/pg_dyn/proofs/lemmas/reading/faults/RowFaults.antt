@@ -1,5 +1,5 @@
 -- Packed lists whose elements are looked at and not read.
-use Rattle.std.proofs.Common.{◌≡◌, ℕ, ◌+◌, ◌<◌, ◌≤◌, List, [], ◌∷◌, ◌++◌, length, map, take, drop, true, Some, is_some, option_and_then, Result, Ok, Err, refl, ap, sym, ◌∙◌, arith, length-drop, drop-drop, append_assoc}
+use Rattle.std.proofs.Common.{◌≡◌, ℕ, ◌+◌, ◌<◌, ◌≤◌, List, [], ◌∷◌, ◌++◌, length, map, take, drop, true, Some, is_some, option_and_then, Result, Ok, Err, refl, ap, sym, ◌∙◌, arith, length-drop, drop-drop, append_assoc, rules}
 use Rattle.std.proofs.lemmas.List.{drop_all}
 use Rattle.pg_schema.specs.declared.parts.field.Scalar.{Scalar}
 use Rattle.pg_schema.specs.declared.parts.field.Scalar.TheVariants as scalars
@@ -58,12 +58,7 @@ pub record RowUpTo (s : Scalar) (body : List ℕ) (start : ℕ) : Type 0 where
 
 module _ (s : Scalar) (body : List ℕ) where
   pub row_begins : RowUpTo s body 0
-  row_begins = record {
-    inside = omega arith;
-    done = [];
-    row_ok = λ others h. h;
-    row_err = λ f h. h;
-  }
+  row_begins = search (rules, arith)
 
   module _ (start : ℕ) (a : RowUpTo s body start) where
     pub row_whole : is_packable (elements.Scalar s) ≡ true → length body ≤ start → is_some (packed_leaves (scalar_form s) body) ≡ true

@@ -1,8 +1,7 @@
 -- Where a message is deeper than a limit, the bytes are at least as many: each message inside another has a byte more around it.
-use Rattle.std.proofs.Common.{◌≡◌, ◌≢◌, ℕ, suc, ◌+◌, ◌≤◌, ◌<◌, List, length, None, Result, Ok, Err, IfErr, refl, ap, sym, arith, length-append}
+use Rattle.std.proofs.Common.{◌≡◌, ◌≢◌, ℕ, suc, ◌+◌, ◌≤◌, ◌<◌, List, length, None, Result, Ok, Err, IfErr, ap, sym, arith, length-append}
 use Rattle.pg_schema.specs.declared.parts.field.TypeId.{TypeId}
 use Rattle.pg_schema.specs.Shape.{Shape, FieldShape, fields}
-use Rattle.pg_wire.specs.Errors.{fault_of, place_of}
 use Rattle.pg_wire.specs.Records.{WireRecord, IsRecord}
 use Rattle.pg_wire.proofs.RecordLaws.{record_at_takes, length-IsRecord}
 use Rattle.pg_dyn.specs.declared.error.DynError.{DynError}
@@ -10,7 +9,7 @@ use Rattle.pg_dyn.specs.declared.error.DynError.TheVariants as errors
 use Rattle.pg_dyn.specs.reading.Decoding.{dec}
 use Rattle.pg_dyn.specs.reading.Refusals.{MayRefuse, MayRefuseUnlimited}
 use Rattle.pg_dyn.proofs.lemmas.reading.faults.Faulty.{dec_of_fault, first_is_fault, text_not_deep, wire_not_deep}
-use Rattle.pg_dyn.specs.reading.Faults.{Code, FirstFault, NotUtf8, TooDeep, TooDeepIn, TooDeepOf, Wire, the_root, in_record, the_child, in_child, in_entry, missing_value}
+use Rattle.pg_dyn.specs.reading.Faults.{Code, FirstFault, TooDeep, TooDeepIn, TooDeepOf, the_root, in_record, the_child, in_child, in_entry, missing_value}
 use Rattle.pg_dyn.proofs.lemmas.reading.Depth.{body_shorter}
 
 module _ (shape : Shape) where
@@ -42,29 +41,12 @@ unread shape type limit bytes code place other h =
 
 -- What is refused within a limit above the length, memory aside, has no reading.
 pub refused_unread : (shape : Shape) (type : TypeId) (limit : ℕ) (bytes : List ℕ) (e : DynError) → length bytes < limit → e ≢ errors.Memory → MayRefuse shape type limit bytes e → None ≡ dec shape type bytes
-refused_unread shape type limit bytes errors.Memory short other h = absurd (other refl)
-refused_unread shape type limit bytes (errors.NotUtf8 at) short other h = unread shape type limit bytes NotUtf8 at text_not_deep h
-refused_unread shape type limit bytes (errors.TooDeep at) short other h = absurd (not_deep shape type limit bytes at short h)
-refused_unread shape type limit bytes (errors.Wire e) short other h = unread shape type limit bytes (Wire (fault_of e)) (place_of e) (wire_not_deep (fault_of e)) h
-refused_unread shape type limit bytes errors.NoSuchField short other h = absurd h
-refused_unread shape type limit bytes errors.WrongKind short other h = absurd h
-refused_unread shape type limit bytes errors.OutOfRange short other h = absurd h
-refused_unread shape type limit bytes errors.OneofTwice short other h = absurd h
-refused_unread shape type limit bytes errors.DuplicateKey short other h = absurd h
-refused_unread shape type limit bytes errors.TooLong short other h = absurd h
+refused_unread shape type limit bytes e short other h =
+    grind (arith, unread, text_not_deep, not_deep, wire_not_deep)
 
 -- What is refused within a limit above the length isn't for want of depth.
 pub refused_unlimited : (shape : Shape) (type : TypeId) (bytes : List ℕ) (e : DynError) → MayRefuse shape type (length bytes + 1) bytes e → MayRefuseUnlimited shape type bytes e
-refused_unlimited shape type bytes errors.Memory h = tt
-refused_unlimited shape type bytes (errors.NotUtf8 at) h = h
-refused_unlimited shape type bytes (errors.TooDeep at) h = absurd (not_deep shape type (length bytes + 1) bytes at (omega arith) h)
-refused_unlimited shape type bytes (errors.Wire e) h = h
-refused_unlimited shape type bytes errors.NoSuchField h = absurd h
-refused_unlimited shape type bytes errors.WrongKind h = absurd h
-refused_unlimited shape type bytes errors.OutOfRange h = absurd h
-refused_unlimited shape type bytes errors.OneofTwice h = absurd h
-refused_unlimited shape type bytes errors.DuplicateKey h = absurd h
-refused_unlimited shape type bytes errors.TooLong h = absurd h
+refused_unlimited shape type bytes e h = grind (arith, not_deep)
 
 -- what an error says, by what it said
 pub of_error : {A : Type 0} {P Q : DynError → Type 0} (r : Result A DynError) → ((e : DynError) → P e → Q e) → IfErr r P → IfErr r Q

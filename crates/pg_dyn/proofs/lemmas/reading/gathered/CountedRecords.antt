@@ -1,5 +1,5 @@
 -- Gathered records are gone over one by one: those that count are kept, and the others are read.
-use Rattle.std.proofs.Common.{◌≡◌, ◌≢◌, ℕ, ◌+◌, ◌-◌, ◌<◌, ◌≤◌, List, [], ◌∷◌, ◌++◌, length, map, get_or, take, drop, true, false, Some, None, ap, sym, subst, ◌∙◌, arith}
+use Rattle.std.proofs.Common.{◌≡◌, ◌≢◌, ℕ, ◌+◌, ◌-◌, ◌<◌, ◌≤◌, List, [], ◌∷◌, ◌++◌, length, map, get_or, take, drop, true, false, Some, None, ap, sym, subst, ◌∙◌, arith, rules}
 use Rattle.std.specs.List.{AllByRecursion}
 use Rattle.std.proofs.lemmas.List.{map-append, take_all, take_more}
 use Rattle.std.proofs.Math.Seq.{drop-cons}
@@ -47,10 +47,7 @@ module _ (shape : Shape) (levels : ℕ) (fs : List FieldShape) (rising : Rising 
           subst (λ rs. AreOf f (map seen_record rs)) (sym (one_cut known place d inside)) ((seen_at IsRecord known place d inside are_records, taken.taken), tt)
 
       one_some : take (place + 1 - place) (drop place known) ≢ []
-      one_some none = of (sym (one_cut known place d inside) ∙ none)
-        where
-          of : get_or known place d ∷ [] ≡ [] → ⊥
-          of e = cc
+      one_some none = search (rules, one_cut)
 
       pub one_run : AreOf f (map seen_record (take (place + 1 - place) (drop place known))) × (take (place + 1 - place) (drop place known) ≢ [])
       one_run = (one_of, one_some)

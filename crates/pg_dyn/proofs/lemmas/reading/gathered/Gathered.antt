@@ -1,5 +1,5 @@
 -- What gathered records say of those that count.
-use Rattle.std.proofs.Common.{◌≡◌, ℕ, suc, ◌+◌, ◌<◌, ◌≤◌, List, [], ◌∷◌, ◌++◌, length, map, take, filter, get_or, Bool, true, false, true≢false, not, ◌&&◌, ◌||◌, cond, nat_eq, Option, Some, None, ◌⊎◌, inl, inr, ⊎_elim, refl, ap, ap₂, sym, subst, ◌∙◌, arith, eq-eqb, eqb-true, zero, take_all}
+use Rattle.std.proofs.Common.{◌≡◌, ℕ, suc, ◌+◌, ◌<◌, ◌≤◌, List, [], ◌∷◌, ◌++◌, length, map, take, filter, get_or, Bool, true, false, true≢false, not, ◌&&◌, ◌||◌, cond, nat_eq, Some, None, ◌⊎◌, inl, inr, ⊎_elim, refl, ap, ap₂, sym, subst, ◌∙◌, arith, eq-eqb, eqb-true, zero, take_all, rules}
 use Rattle.std.specs.List.{AllByRecursion, list_any}
 use Rattle.std.proofs.lemmas.Bool.{and_parts, and_from}
 use Rattle.std.proofs.lemmas.List.{append-nil, length-map, length-take-le, map-append, take_more}
@@ -61,11 +61,7 @@ seen_each P (r ∷ rs) h = (h.0, seen_each P rs h.1)
 any_passes : (test : FieldShape → Bool) (P : FieldShape → Type 0) (fs : List FieldShape) → AllByRecursion P fs → list_any test fs ≡ true
     → (f : FieldShape) × P f × (test f ≡ true)
 any_passes test P [] each h = absurd (true≢false (sym h))
-any_passes test P (f ∷ fs) each h = of (test f) refl (λ e. any_passes test P fs each.1 (sym (ap (λ b. b || list_any test fs) e) ∙ h))
-  where
-    of : (b : Bool) → test f ≡ b → (test f ≡ false → (g : FieldShape) × P g × (test g ≡ true)) → (g : FieldShape) × P g × (test g ≡ true)
-    of true e later = (f, each.0, e)
-    of false e later = later e
+any_passes test P (f ∷ fs) each h = search (rules, any_passes test P fs each.1)
 
 not_false : (b : Bool) → not b ≡ false → b ≡ true
 not_false true h = refl
@@ -73,17 +69,10 @@ not_false false h = absurd (true≢false h)
 
 module _ (fs : List FieldShape) (rising : Rising fs) (r : WireRecord) (known : is_unknown fs r ≡ false) where
   pub known_taken : (f : FieldShape) × Taken fs r f
-  known_taken =
-      let (f, found, taken) =
-      any_passes (λ f. takes f r) (λ f. field_at fs f.number ≡ Some f) fs (each_found fs rising) (not_false (list_any (λ f. takes f r) fs) known) in
-      (f, record { found = ap (field_at fs) (eqb-true r.number f.number (takes_number f r taken)) ∙ found; taken = taken })
+  known_taken = search (rules, any_passes, each_found, not_false, eqb-true, takes_number)
 
   pub known_takes : (f : FieldShape) → field_at fs r.number ≡ Some f → takes f r ≡ true
-  known_takes f found =
-      let (g, here) = known_taken in
-      let same : ◌≡◌ {A = Option FieldShape} (Some g) (Some f) = sym here.found ∙ found in
-      let is : g ≡ f = cc in
-      ap (λ x. takes x r) (sym is) ∙ here.taken
+  known_takes f found = search (rules, known_taken)
 
   pub known_found : field_at fs r.number ≡ None → ⊥
   known_found none = let e = sym known_taken.1.found ∙ none in cc
@@ -108,8 +97,7 @@ module _ (fs : List FieldShape) (f : FieldShape) (found : field_at fs f.number �
   -- records that no field accepts neither count nor clear
   pub known_counted : (rs : List WireRecord) → counted fs f (known_of fs rs) ≡ counted fs f rs
   known_counted rs =
-      ap (filter (takes f)) (after_last_of-filter (λ r. not (is_unknown fs r)) (clears fs f) clearing_known rs)
-      ∙ filter-filter_weaker (λ r. not (is_unknown fs r)) (takes f) taken_known (after_last_of (clears fs f) rs)
+      search (rules, after_last_of-filter, clearing_known, filter-filter_weaker, taken_known)
 
 -- Records that count.
 
@@ -169,31 +157,25 @@ module _ (fs : List FieldShape) (rising : Rising fs) (ks left : List WireRecord)
   counted_alike others are known same = record { are_records = are; known = known; which = λ f found. same f ∙ h.which f found }
 
   nothing_clears : (f : FieldShape) → field_at fs f.number ≡ Some f → (b : Bool) → list_any (clears fs f) left ≡ b → counted fs f left ≡ filter (takes f) left
-  nothing_clears f found false none = ap (filter (takes f)) (after_last_of_none (clears fs f) left none)
-  nothing_clears f found true some = filter-after_last_of_none (takes f) (clears fs f) left (filtered_out (takes f) left nothing) ∙ sym nothing
-    where
-      nothing : filter (takes f) left ≡ []
-      nothing =
-          let (g, found_g, sibling, others) = cleared_by fs rising f left some in
-          h.which f found ∙ ⊎_elim (λ none. none) (λ none. absurd (others (h.which g found_g ∙ none))) (one_counts fs f g found found_g sibling ks)
+  nothing_clears f found b none =
+      grind (
+        arith,
+        after_last_of_none,
+        filter-after_last_of_none,
+        filtered_out,
+        cleared_by,
+        one_counts,
+      )
 
   -- of records that count all count
   pub counted_all_count : AllCount fs left
-  counted_all_count = record {
-    are_records = h.are_records;
-    known = each_weaker (λ r. is_unknown fs r ≡ false) (λ r. (f : FieldShape) × Taken fs r f) (λ r k. known_taken fs rising r k) left h.known;
-    count = λ f found. nothing_clears f found (list_any (clears fs f) left) refl;
-  }
+  counted_all_count = search (rules, each_weaker, known_taken, nothing_clears)
 
 -- records that count do so by rising number too
 pub sorted_counted : (fs : List FieldShape) → Rising fs → (ks : List WireRecord) (left new : List Record)
     → IsCounted fs ks (map seen_record left) → AreByNumber left new → IsCounted fs ks (map seen_record new)
 sorted_counted fs rising ks left new h sorted =
-    counted_alike fs rising ks (map seen_record left) h (map seen_record new)
-    (each-map IsRecord seen_record new (each_by_number left new sorted (λ r. IsRecord (seen_record r)) (seen_each IsRecord left h.are_records)))
-    (each-map (λ r. is_unknown fs r ≡ false) seen_record new
-    (each_by_number left new sorted (λ r. is_unknown fs (seen_record r) ≡ false) (seen_each (λ r. is_unknown fs r ≡ false) left h.known)))
-    (taken_by_number left new sorted)
+    search (rules, counted_alike, each-map, each_by_number, seen_each, taken_by_number)
 
 pub sorted_all_count : (fs : List FieldShape) → Rising fs → (ks : List WireRecord) (left new : List Record)
     → IsCounted fs ks (map seen_record left) → AreByNumber left new → AllCount fs (map seen_record new)
@@ -213,12 +195,7 @@ module _ (fs : List FieldShape) (rising : Rising fs) (oneof_runs : OneofRuns) (k
   module _ (are : AllByRecursion IsRecord (map seen_record known)) (are_known : AllByRecursion (λ r. is_unknown fs r ≡ false) (map seen_record known))
       (place : ℕ) (left : List Record) (h : CountedSoFar fs oneof_runs known place left) where
     pub counted_so_far : length known ≤ place → AreOneofRuns fs (map seen_record known) oneof_runs → IsCounted fs (map seen_record known) (map seen_record left)
-    counted_so_far all k = record {
-      are_records = h.are_records;
-      known = h.are_known;
-      which = λ f found. h.which f found ∙ ap (λ rs. filter_at (λ p r. takes f r && counts_at oneof_runs f p) 0
-          (map seen_record rs)) (take_all place known all) ∙ sym (k.which f found);
-    }
+    counted_so_far all k = search (rules, take_all)
 
     module _ (inside : place < length known) (d : Record) where
       each_there : (P : WireRecord → Type 0) → AllByRecursion P (map seen_record known) → P (seen_record (get_or known place d))
@@ -251,9 +228,7 @@ module _ (fs : List FieldShape) (rising : Rising fs) (oneof_runs : OneofRuns) (k
       module _ (g : FieldShape) (found_g : field_at fs (get_or known place d).number ≡ Some g) where
         -- a field that takes the record there is g
         taker : (f : FieldShape) → field_at fs f.number ≡ Some f → takes f (seen_record (get_or known place d)) ≡ true → f ≡ g
-        taker f found taken =
-            let at = eqb-true (get_or known place d).number f.number (takes_number f (seen_record (get_or known place d)) taken) in
-            let same : ◌≡◌ {A = Option FieldShape} (Some f) (Some g) = sym found ∙ ap (field_at fs) (sym at) ∙ found_g in cc
+        taker f found taken = search (rules, eqb-true, takes_number)
 
         pub one_counts_more : counts_at oneof_runs g place ≡ true → CountedSoFar fs oneof_runs known (place + 1) (left ++ get_or known place d ∷ [])
         one_counts_more counts =

@@ -1,5 +1,5 @@
 -- What gathered records are read as: those that count, by rising number, say what all of them say.
-use Rattle.std.proofs.Common.{◌≡◌, ◌<◌, ℕ, List, [], ◌∷◌, length, map, filter, Bool, true, false, not, cond, nat_eq, Some, option_and_then, refl, ap, ap₂, sym, subst, ◌∙◌, eq-eqb}
+use Rattle.std.proofs.Common.{◌≡◌, ◌<◌, ℕ, List, [], ◌∷◌, length, map, filter, Bool, true, false, not, cond, nat_eq, Some, option_and_then, refl, ap, ap₂, sym, subst, ◌∙◌, eq-eqb, rules}
 use Rattle.std.specs.List.{AllByRecursion}
 use Rattle.pg_schema.specs.declared.parts.field.TypeId.{TypeId}
 use Rattle.pg_schema.specs.Shape.{Shape, FieldShape, fields, field_at}
@@ -94,35 +94,20 @@ module _ (shape : Shape) (levels : ℕ) (type : TypeId) (rs : List WireRecord) (
 
   -- all are left where each counts
   pub all_left : g.oneof_runs.all_count ≡ true → IsLeft shape levels (fields shape type) rs g.known.items
-  all_left all = record {
-    counted = subst (λ ks. IsCounted (fields shape type) ks (map seen_record g.known.items)) h.known
-        (all_counted (fields shape type) (map seen_record g.known.items) g.oneof_runs runs_are all known_are_records known_are_known);
-    good = λ k. subst (RecordsGood shape levels (fields shape type)) h.known k;
-  }
+  all_left all = search (rules, all_counted, runs_are, known_are_records, known_are_known)
 
   pub some_left : (ks left : List Record) → ks ≡ g.known.items → IsCounted (fields shape type) (map seen_record ks) (map seen_record left)
       → (RecordsGood shape levels (fields shape type) (map seen_record left) → RecordsGood shape levels (fields shape type) (map seen_record ks))
       → IsLeft shape levels (fields shape type) rs left
-  some_left ks left is are good = record {
-    counted = subst (λ xs. IsCounted (fields shape type) xs (map seen_record left)) (ap (map seen_record) is ∙ h.known) are;
-    good = λ k. subst (RecordsGood shape levels (fields shape type)) (ap (map seen_record) is ∙ h.known) (good k);
-  }
+  some_left ks left is are good = search rules
 
   -- records that are good, of which some are known
   pub known_good : (ks : List Record) → ks ≡ g.known.items → RecordsGood shape levels (fields shape type) rs
       → RecordsGood shape levels (fields shape type) (map seen_record ks)
-  known_good ks is k =
-      subst (RecordsGood shape levels (fields shape type)) (sym (ap (map seen_record) is ∙ h.known))
-      (each_good shape levels (fields shape type) (known_of (fields shape type) rs)
-      (each_filtered (IsGood shape levels (fields shape type)) (λ r. not (is_unknown (fields shape type) r)) rs
-      (good_each shape levels (fields shape type) rs k)))
+  known_good ks is k = search (rules, each_good, each_filtered, good_each)
 
   pub unknown_are : AllByRecursion (IsUnknown (fields shape type)) (map seen_record g.unknown.items)
-  unknown_are =
-      subst (AllByRecursion (IsUnknown (fields shape type))) (sym h.unknown)
-      (each_weaker (λ r. IsRecord r × (is_unknown (fields shape type) r ≡ true)) (IsUnknown (fields shape type))
-      (λ r k. record { is_record = k.0; not_accepted = k.1 }) (filter (is_unknown (fields shape type)) rs)
-      (each-filter IsRecord (is_unknown (fields shape type)) rs h.are_records))
+  unknown_are = search (rules, each_weaker, each-filter)
 
   pub fits_of_all : (cs : List (ℕ × ContentRef)) → type.index < length shape → Fits shape (fields_onto cs (ends type []))
       → Fits shape (fields_onto cs (ends type (map seen_record g.unknown.items)))

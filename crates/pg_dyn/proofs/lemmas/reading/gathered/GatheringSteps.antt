@@ -1,5 +1,5 @@
 -- One more record is gathered.
-use Rattle.std.proofs.Common.{◌≡◌, ℕ, List, [], ◌∷◌, ◌++◌, length, map, filter, true, false, not, Result, Ok, ap, sym, subst, ◌∙◌, append_assoc}
+use Rattle.std.proofs.Common.{◌≡◌, ℕ, List, [], ◌∷◌, ◌++◌, length, map, filter, true, false, not, Result, Ok, ap, sym, subst, ◌∙◌, append_assoc, rules}
 use Rattle.std.proofs.lemmas.List.{append-nil, length-map, map-append}
 use Rattle.pg_schema.specs.declared.parts.field.TypeId.{TypeId}
 use Rattle.pg_schema.specs.Shape.{Shape, FieldShape, fields}
@@ -37,30 +37,13 @@ module _ (shape : Shape) (type : TypeId) (rs : List WireRecord) (old new : Gathe
       → AreOneofRuns (fields shape type) (known_of (fields shape type) rs ++ seen_record found ∷ []) new.oneof_runs
       → AreGathered shape type (rs ++ seen_record found ∷ []) new
   known_added found is known items same oneof_runs =
-      let r = seen_record found in
-      let fs = fields shape type in
-      record {
-        are_records = each-append IsRecord rs (r ∷ []) h.are_records (is, tt);
-        known = ap (map seen_record) items ∙ map-append seen_record old.known.items (found ∷ []) ∙ ap (λ xs. xs ++ r ∷ []) h.known
-            ∙ sym (known_more fs rs r known);
-        unknown = ap (λ (us : _). map seen_record us.items) same ∙ h.unknown ∙ sym (unknown_same fs rs r known);
-        oneof_runs = subst (λ xs. AreOneofRuns fs xs new.oneof_runs) (sym (known_more fs rs r known)) oneof_runs;
-      }
+      search (rules, each-append, map-append, known_more, unknown_same)
 
   pub unknown_added : (found : Record) → IsRecord (seen_record found) → is_unknown (fields shape type) (seen_record found) ≡ true
       → new.unknown.items ≡ old.unknown.items ++ found ∷ [] → new.known ≡ old.known → new.oneof_runs ≡ old.oneof_runs
       → AreGathered shape type (rs ++ seen_record found ∷ []) new
   unknown_added found is unknown items same oneof_runs =
-      let r = seen_record found in
-      let fs = fields shape type in
-      record {
-        are_records = each-append IsRecord rs (r ∷ []) h.are_records (is, tt);
-        known = ap (λ (us : _). map seen_record us.items) same ∙ h.known ∙ sym (known_same fs rs r unknown);
-        unknown = ap (map seen_record) items ∙ map-append seen_record old.unknown.items (found ∷ []) ∙ ap (λ xs. xs ++ r ∷ []) h.unknown
-            ∙ sym (unknown_more fs rs r unknown);
-        oneof_runs = subst (λ xs. AreOneofRuns fs xs new.oneof_runs) (sym (known_same fs rs r unknown))
-            (subst (AreOneofRuns fs (known_of fs rs)) (sym oneof_runs) h.oneof_runs);
-      }
+      search (rules, each-append, known_same, map-append, unknown_more)
 
 -- The records of bytes are gathered after others.
 
@@ -71,11 +54,7 @@ pub record GatheringAhead (shape : Shape) (type : TypeId) (bytes : List ℕ) (ol
 
 module _ (shape : Shape) (type : TypeId) (bytes : List ℕ) (old : Gathered) where
   pub begin : (left : List (Result WireRecord WireError)) → left ≡ results 0 bytes → GatheringAhead shape type bytes old old left
-  begin left is = record {
-    records = [];
-    front = subst (λ xs. Front bytes xs []) (sym is) (none_yet bytes);
-    gathered = λ before h. subst (λ rs. AreGathered shape type rs old) (sym (append-nil before)) h;
-  }
+  begin left is = search (rules, none_yet, append-nil)
 
   module _ (now : Gathered) (left : List (Result WireRecord WireError)) (a : GatheringAhead shape type bytes old now left) where
     pub onward : (r : WireRecord) (later : List (Result WireRecord WireError)) → left ≡ Ok r ∷ later → (new : Gathered)

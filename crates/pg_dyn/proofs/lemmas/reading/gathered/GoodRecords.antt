@@ -1,5 +1,5 @@
 -- Records that have a reading and hold no message that is too deep, one by one.
-use Rattle.std.proofs.Common.{◌≡◌, ℕ, List, Bool, true, false, not, ◌||◌, Option, Some, refl, ap, sym, subst, ◌∙◌, eqb-true}
+use Rattle.std.proofs.Common.{◌≡◌, ℕ, List, Bool, true, false, not, ◌||◌, Option, Some, refl, ap, sym, ◌∙◌, eqb-true, rules}
 use Rattle.std.specs.List.{AllByRecursion, list_any, list_all}
 use Rattle.pg_schema.specs.Shape.{Shape, FieldShape, field_at}
 use Rattle.pg_schema.specs.ShapeRules.{Rising}
@@ -8,7 +8,6 @@ use Rattle.pg_dyn.specs.reading.ByFields.{RecordsGood}
 use Rattle.pg_dyn.specs.reading.Content.{takes, is_unknown}
 use Rattle.pg_dyn.specs.reading.Decoding.{dec, is_readable}
 use Rattle.pg_dyn.specs.reading.Steps.{FieldReads, IsShallow, IsShallowRecord, Taken}
-use Rattle.pg_dyn.specs.reading.Faults.{TooDeepOf}
 use Rattle.pg_dyn.proofs.Lists.{each_at, each_both, each_weaker, list_all_each, list_all_true, list_any_at, none_list_any}
 use Rattle.pg_dyn.proofs.lemmas.reading.records.Splitting.{each_found, takes_number}
 use Rattle.std.proofs.lemmas.Bool.{not-true}
@@ -18,8 +17,7 @@ same_found f g e = cc
 
 -- the field that takes a record is the one of its number
 pub taken_is : (fs : List FieldShape) (r : WireRecord) (f g : FieldShape) → Taken fs r f → field_at fs g.number ≡ Some g → takes g r ≡ true → g ≡ f
-taken_is fs r f g taken found takes_g =
-    same_found g f (sym found ∙ ap (field_at fs) (sym (eqb-true r.number g.number (takes_number g r takes_g))) ∙ taken.found)
+taken_is fs r f g taken found takes_g = search (rules, same_found, eqb-true, takes_number)
 
 pub known_is : (fs : List FieldShape) (r : WireRecord) (f : FieldShape) → Taken fs r f → is_unknown fs r ≡ false
 known_is fs r f taken = ap not (list_any_at (λ g. takes g r) fs r.number f taken.found taken.taken)
@@ -60,16 +58,10 @@ module _ (shape : Shape) (levels : ℕ) (fs : List FieldShape) where
   good_each rs h = each_both (λ r. reads r ≡ true) (IsShallowRecord shape levels fs) rs (list_all_true reads rs h.0) h.1
 
   pub each_good : (rs : List WireRecord) → AllByRecursion IsGood rs → RecordsGood shape levels fs rs
-  each_good rs h = (
-    list_all_each reads rs (each_weaker IsGood (λ r. reads r ≡ true) (λ r k. k.0) rs h),
-    each_weaker IsGood (IsShallowRecord shape levels fs) (λ r k. k.1) rs h,
-  )
+  each_good rs h = search (rules, list_all_each, each_weaker)
 
   pub good_by_field : Rising fs → (r : WireRecord) (f : FieldShape) → Taken fs r f → FieldReads shape f r × IsShallow shape levels f r → IsGood r
-  good_by_field rises r f taken h = (
-    read_by_field shape fs rises r f taken h.0,
-    λ g other place deep. h.1 place (subst (λ x. TooDeepOf shape levels x r place) (same_found g f (sym other.found ∙ taken.found)) deep),
-  )
+  good_by_field rises r f taken h = search (rules, read_by_field, same_found)
 
   pub good_of_field : (r : WireRecord) (f : FieldShape) → Taken fs r f → IsGood r → FieldReads shape f r × IsShallow shape levels f r
   good_of_field r f taken h =
@@ -80,7 +72,4 @@ module _ (shape : Shape) (levels : ℕ) (fs : List FieldShape) where
 
   -- a record that no field takes is good
   pub good_unknown : (r : WireRecord) → is_unknown fs r ≡ true → IsGood r
-  good_unknown r unknown = (read_unknown shape fs r unknown, λ f taken place deep. absurd (clash (known_is fs r f taken)))
-    where
-      clash : is_unknown fs r ≡ false → ⊥
-      clash e = cc
+  good_unknown r unknown = search (rules, read_unknown, known_is)

@@ -1,13 +1,11 @@
 -- Records of a field that is no map, by their wire types.
-use Rattle.std.proofs.Common.{◌≡◌, List, [], ◌∷◌, true, false, ◌&&◌, ◌||◌, nat_eq, Some, ap, sym, ◌∙◌, ℕ}
+use Rattle.std.proofs.Common.{◌≡◌, List, [], ◌∷◌, true, false, Some, ℕ, rules, arith}
 use Rattle.std.proofs.lemmas.Bool.{and_parts}
 use Rattle.std.proofs.Math.Bool.{and-false, or-false}
 use Rattle.pg_schema.specs.Shape.{Shape, FieldShape, is_map, is_repeated, is_packable}
 use Rattle.pg_wire.specs.Records.{WireRecord, IsBody}
-use Rattle.pg_wire.specs.declared.record.WireType.TheVariants.{Len, Varint, I64, I32}
 use Rattle.pg_dyn.specs.word.Coding.{form, form_wire, leaf_in, HasShape}
-use Rattle.pg_dyn.specs.reading.Content.{same_wire, own_wire, is_accepted, takes, leaves_in, packed_leaves}
-use Rattle.pg_dyn.specs.reading.Decoding.{dec}
+use Rattle.pg_dyn.specs.reading.Content.{same_wire, takes, leaves_in, packed_leaves}
 use Rattle.pg_dyn.specs.message.Message.{Leaf}
 use Rattle.pg_dyn.specs.reading.ReadingOn.{IsNoMessage}
 use Rattle.pg_dyn.specs.reading.Steps.{FieldReads}
@@ -17,33 +15,13 @@ use Rattle.pg_wire.specs.declared.record.WireType.{WireType}
 -- What a record of the wire type holds.
 
 pub shape_of_body : (w v : WireType) (before body : List ℕ) → same_wire w v ≡ true → IsBody w before body → HasShape v body
-shape_of_body Varint Varint before body h is = is.1
-shape_of_body Varint I64 before body h is = absurd (cc)
-shape_of_body Varint Len before body h is = absurd (cc)
-shape_of_body Varint I32 before body h is = absurd (cc)
-shape_of_body I64 Varint before body h is = absurd (cc)
-shape_of_body I64 I64 before body h is = is.1
-shape_of_body I64 Len before body h is = absurd (cc)
-shape_of_body I64 I32 before body h is = absurd (cc)
-shape_of_body Len Varint before body h is = absurd (cc)
-shape_of_body Len I64 before body h is = absurd (cc)
-shape_of_body Len Len before body h is = tt
-shape_of_body Len I32 before body h is = absurd (cc)
-shape_of_body I32 Varint before body h is = absurd (cc)
-shape_of_body I32 I64 before body h is = absurd (cc)
-shape_of_body I32 Len before body h is = absurd (cc)
-shape_of_body I32 I32 before body h is = is.1
+shape_of_body w v before body h is = grind arith
 
 -- Which wire type a record has, and its leaves.
 
 pub singular_wire : (f : FieldShape) (r : WireRecord) → takes f r ≡ true → is_map f.presence ≡ false → is_repeated f.presence ≡ false
     → same_wire r.wire (form_wire (form f.element)) ≡ true
-singular_wire f r taken no_map singular =
-    let accepted = (and_parts (nat_eq r.number f.number) (is_accepted f r) taken).1 in
-    let none : (same_wire r.wire Len && is_repeated f.presence && is_packable f.element) ≡ false = rw (singular, and-false (same_wire r.wire Len)) in
-    let own : same_wire r.wire (own_wire f) ≡ true =
-    sym (or-false (same_wire r.wire (own_wire f))) ∙ ap (λ b. same_wire r.wire (own_wire f) || b) (sym none) ∙ accepted in
-    ap (same_wire r.wire) (sym (own_is f.number f.presence f.element f.oneof no_map)) ∙ own
+singular_wire f r taken no_map singular = search (rules, and_parts, and-false, or-false, own_is)
 
 pub own_leaves : (f : FieldShape) (r : WireRecord) (leaf : Leaf) → same_wire r.wire (form_wire (form f.element)) ≡ true
     → leaf_in (form f.element) r.body ≡ Some leaf → leaves_in f r ≡ Some (leaf ∷ [])
@@ -57,17 +35,11 @@ row_leaves f r other = rw other
 
 pub reads_scalar : (shape : Shape) (f : FieldShape) (r : WireRecord) (leaves : List Leaf) → is_map f.presence ≡ false → IsNoMessage f.element
     → leaves_in f r ≡ Some leaves → FieldReads shape f r
-reads_scalar shape f r leaves no_map scalar read =
-    readable_is (dec shape) f.number f.presence f.element f.oneof r no_map ∙ rw (read, no_child (dec shape) f.element r.body scalar)
+reads_scalar shape f r leaves no_map scalar read = search (rules, readable_is, no_child)
 
 -- Packed lists.
 
 -- a record of another wire type is taken where a packed list can be
 pub packable_of : (f : FieldShape) (r : WireRecord) → takes f r ≡ true → is_map f.presence ≡ false → same_wire r.wire (form_wire (form f.element)) ≡ false
     → is_packable f.element ≡ true
-packable_of f r taken no_map other =
-    let accepted = (and_parts (nat_eq r.number f.number) (is_accepted f r) taken).1 in
-    let own : same_wire r.wire (own_wire f) ≡ false = ap (same_wire r.wire) (own_is f.number f.presence f.element f.oneof no_map) ∙ other in
-    let rest : (same_wire r.wire Len && is_repeated f.presence && is_packable f.element) ≡ true =
-    ap (λ b. b || (same_wire r.wire Len && is_repeated f.presence && is_packable f.element)) (sym own) ∙ accepted in
-    (and_parts (same_wire r.wire Len && is_repeated f.presence) (is_packable f.element) rest).1
+packable_of f r taken no_map other = search (rules, and_parts, own_is)

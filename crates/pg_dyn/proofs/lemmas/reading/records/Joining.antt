@@ -1,5 +1,5 @@
 -- Bytes are read where each accepted record has a reading; so joined bytes are read where each part is.
-use Rattle.std.proofs.Common.{◌≡◌, ℕ, zero, suc, ◌<◌, ◌≤◌, List, [], ◌∷◌, ◌++◌, map, filter, length, Bool, true, false, not, ◌&&◌, ◌||◌, cond, Option, Some, None, is_some, option_map, option_and_then, Result, Ok, Err, refl, ap, ap₂, sym, ◌∙◌, subst, arith, true≢false}
+use Rattle.std.proofs.Common.{◌≡◌, ℕ, zero, suc, ◌<◌, ◌≤◌, List, [], ◌∷◌, ◌++◌, map, filter, length, Bool, true, false, not, ◌&&◌, ◌||◌, cond, Option, Some, None, is_some, option_map, option_and_then, Result, Ok, Err, refl, ap, ap₂, sym, ◌∙◌, subst, arith, true≢false, rules}
 use Rattle.std.specs.Bool.{⊤}
 use Rattle.std.specs.List.{AllByRecursion, list_any, list_all}
 use Rattle.std.proofs.lemmas.Bool.{and_parts, and_from}
@@ -15,7 +15,7 @@ use Rattle.pg_wire.specs.Reading.{Fault}
 use Rattle.pg_wire.specs.Records.{WireRecord, IsRecord, records_of}
 use Rattle.pg_wire.proofs.RecordLaws.{records_of_Spells, Spells_from_records_of}
 use Rattle.pg_dyn.specs.reading.Optional.{all_some, after_last_of, first_or, joined}
-use Rattle.pg_dyn.specs.message.Message.{Leaf, Bytes, Part, Plain, Msg}
+use Rattle.pg_dyn.specs.message.Message.{Leaf, Bytes, Part}
 use Rattle.pg_dyn.specs.word.Coding.{form, zero_leaf}
 use Rattle.pg_dyn.specs.reading.Content.{same_wire, takes, is_sibling, counted, option_from, packed_leaves, leaves_in, leaf_bytes, last_item, plain_content, key_field, value_field, entry_part, entry_in, by_key, content}
 use Rattle.pg_dyn.specs.reading.Decoding.{Reader, is_plain_readable, all_plain_readable, is_readable, all_readable, read_item, read_part, field_parts, read_records, dec}
@@ -46,9 +46,7 @@ found_map g P Q o w h = let (x, at, good) = h in (g x, rw at, w x good)
 
 pub each_after_last : {A : Type 0} (P : A → Type 0) (test : A → Bool) (xs : List A) → AllByRecursion P xs → AllByRecursion P (after_last_of test xs)
 each_after_last P test [] h = tt
-each_after_last P test (x ∷ xs) h =
-    elim (list_any test (x ∷ xs)) as (λ b. AllByRecursion P (cond b (after_last_of test xs) (x ∷ xs)))
-    [ true ↦ each_after_last P test xs h.1 | false ↦ h ]
+each_after_last P test (x ∷ xs) h = search (rules, each_after_last P test xs h.1)
 
 -- the records of a field that count are readable for it
 pub implied : (a b : Bool) → (not a || b) ≡ true → a ≡ true → b ≡ true
@@ -82,10 +80,7 @@ Joins child n = (t : TypeId) (leaves : List Leaf) → AllByRecursion (ChildReads
 
 module _ (child : Reader) (n : ℕ) (joins : Joins child n) where
   last_reads : (p : Presence) (e : Element) (leaves : List Leaf) → reads_of child e leaves → length (leaves_bytes leaves) < n → reads_of child e (last_item p e leaves)
-  last_reads p (elements.Message t) [] h short = tt
-  last_reads p (elements.Message t) (l ∷ ls) h short = (joins t (l ∷ ls) h short, tt)
-  last_reads p (elements.Scalar s) leaves h short = each_of_all (ChildReads child (elements.Scalar s)) (λ l. tt) (last_item p (elements.Scalar s) leaves)
-  last_reads p (elements.Enum e) leaves h short = each_of_all (ChildReads child (elements.Enum e)) (λ l. tt) (last_item p (elements.Enum e) leaves)
+  last_reads p e leaves h short = grind (arith, each_of_all)
 
   -- rows of items as a content
   rows_read : (p : Presence) (e : Element) (rows : List (List Leaf)) → AllByRecursion (AllByRecursion (ChildReads child e)) rows → ((t : TypeId) → e ≡ elements.Message t → length (leaves_bytes (joined rows)) < n) → reads_of child e (cond (is_repeated p) (joined rows) (last_item p e (joined rows)))
@@ -103,11 +98,7 @@ module _ (child : Reader) (n : ℕ) (joins : Joins child n) where
   messages_short number p (elements.Enum e) oneof r rs rows read w t is = absurd (cc)
 
   plain_found : (number : ℕ) (p : Presence) (e : Element) (oneof : Option ℕ) (rs : List WireRecord) → AllByRecursion (λ r. is_plain_readable child (field_of number p e oneof) r ≡ true) rs → weight rs ≤ n → Found (plain_content (field_of number p e oneof) rs) (reads_of child e)
-  plain_found number p e oneof [] h w = (
-    cond (is_repeated p) [] (last_item p e []),
-    refl,
-    subst (reads_of child e) (sym (elim (is_repeated p) as (λ b. cond b [] (last_item p e []) ≡ []) [ true ↦ refl | false ↦ last_item_none p e ])) tt,
-  )
+  plain_found number p e oneof [] h w = search (rules, last_item_none)
   plain_found number p e oneof (r ∷ rs) h w =
       let (rows, read, good) = found_all (leaves_in (field_of number p e oneof)) (AllByRecursion (ChildReads child e)) (r ∷ rs)
       (each_weaker (λ s. is_plain_readable child (field_of number p e oneof) s ≡ true) (λ s. Found (leaves_in (field_of number p e oneof) s) (AllByRecursion (ChildReads child e))) (record_found child number p e oneof) (r ∷ rs) h) in (
@@ -185,9 +176,7 @@ module _ (child : Reader) (n : ℕ) (joins : Joins child n) where
           (entries_found number key e oneof rs w g)
 
   item_found : (e : Element) (leaf : Leaf) → ChildReads child e leaf → Found (read_item child e leaf) (λ x. ⊤)
-  item_found (elements.Message t) leaf h = found_map Msg (λ x. ⊤) (λ x. ⊤) (child t (leaf_bytes leaf)) (λ x k. tt) (is_some_found (child t (leaf_bytes leaf)) h)
-  item_found (elements.Scalar s) leaf h = (Plain leaf, refl, tt)
-  item_found (elements.Enum e) leaf h = (Plain leaf, refl, tt)
+  item_found e leaf h = grind (arith, found_map, is_some_found)
 
   part_found : (e : Element) (q : Part Leaf) → ChildReads child e q.item → Found (read_part child e q) (λ x. ⊤)
   part_found e q h = found_map (λ item. record { number = q.number; key = q.key; item = item }) (λ x. ⊤) (λ x. ⊤) (read_item child e q.item) (λ x k. tt) (item_found e q.item h)
@@ -219,8 +208,7 @@ module _ (child : Reader) (n : ℕ) (joins : Joins child n) where
 pub list_all-append : {A : Type 0} (test : A → Bool) (xs ys : List A) → list_all test xs ≡ true → list_all test ys ≡ true → list_all test (xs ++ ys) ≡ true
 list_all-append test [] ys h k = k
 list_all-append test (x ∷ xs) ys h k =
-    let parts = and_parts (test x) (list_all test xs) h in
-    and_from (test x) (list_all test (xs ++ ys)) parts.0 (list_all-append test xs ys parts.1 k)
+    search (rules, and_parts, and_from, list_all-append test xs ys)
 
 pub records_of-append : (a b : List ℕ) (rs ss : List WireRecord) → records_of a ≡ Ok rs → records_of b ≡ Ok ss → records_of (a ++ b) ≡ Ok (rs ++ ss)
 records_of-append a b rs ss h k =
@@ -239,16 +227,7 @@ module _ (shape : Shape) where
 
   -- what is read is readable
   pub readable_from_dec : (type : TypeId) (bytes : List ℕ) → is_some (dec shape type bytes) ≡ true → IsReadable type bytes
-  readable_from_dec type bytes h = of (records_of bytes) refl
-    where
-      of : (found : Result (List WireRecord) Fault) → records_of bytes ≡ found → IsReadable type bytes
-      of (Err fault) is =
-          let none : is_some (dec shape type bytes) ≡ false = rw (dec_is shape type bytes, is) refl in
-          absurd (true≢false (sym h ∙ none))
-      of (Ok rs) is =
-          let some : is_some (read_records (dec shape) (fields shape type) rs) ≡ true = sym (rw (dec_is shape type bytes, is) refl) ∙ h in
-          let (m, at, good) = is_some_found (read_records (dec shape) (fields shape type) rs) some in
-          (rs, is, (reading_of (dec shape) (fields shape type) rs m at).readable)
+  readable_from_dec type bytes h = search (rules, dec_is, true≢false, is_some_found, reading_of)
 
   readable-append : (type : TypeId) (a b : List ℕ) → IsReadable type a → IsReadable type b → IsReadable type (a ++ b)
   readable-append type a b h k = (
@@ -277,8 +256,3 @@ module _ (shape : Shape) where
   -- What is readable is read.
   pub dec_from_readable : (type : TypeId) (bytes : List ℕ) → IsReadable type bytes → is_some (dec shape type bytes) ≡ true
   dec_from_readable type bytes h = read_given (length bytes) (joins_below (length bytes)) type bytes (omega arith) h
-
-  -- Joined bytes are read where each part is.
-  pub dec-append : (type : TypeId) (a b : List ℕ) → is_some (dec shape type a) ≡ true → is_some (dec shape type b) ≡ true → is_some (dec shape type (a ++ b)) ≡ true
-  dec-append type a b h k =
-      dec_from_readable type (a ++ b) (readable-append type a b (readable_from_dec type a h) (readable_from_dec type b k))

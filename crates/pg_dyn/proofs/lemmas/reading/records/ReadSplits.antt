@@ -1,18 +1,17 @@
 -- What bytes are read as splits by field number.
-use Rattle.std.proofs.Common.{◌≡◌, ◌≢◌, ℕ, ◌<◌, List, [], ◌∷◌, ◌++◌, map, filter, true, false, cond, nat_eq, Option, Some, None, option_map, refl, ap, ap₂, sym, ◌∙◌, subst, arith, eq-eqb, ne_eqb, append-nil}
+use Rattle.std.proofs.Common.{◌≡◌, ◌≢◌, ℕ, ◌<◌, List, [], ◌∷◌, ◌++◌, map, filter, true, false, cond, nat_eq, Option, Some, None, option_map, refl, ap, ap₂, sym, ◌∙◌, subst, arith, eq-eqb, ne_eqb, append-nil, rules}
 use Rattle.std.specs.Bool.{⊤}
 use Rattle.std.specs.List.{AllByRecursion}
 use Rattle.std.proofs.lemmas.Bool.{eqb-true}
 use Rattle.pg_schema.specs.declared.parts.field.Element.{Element}
 use Rattle.pg_schema.specs.declared.parts.field.Presence.{Presence}
-use Rattle.pg_schema.specs.declared.parts.field.Presence.TheVariants as presences
 use Rattle.pg_schema.specs.Shape.{FieldShape, field_at}
 use Rattle.pg_schema.specs.ShapeRules.{Rising}
 use Rattle.pg_wire.specs.Records.{WireRecord}
 use Rattle.pg_dyn.specs.reading.Optional.{all_some, joined}
 use Rattle.pg_dyn.specs.message.Message.{Leaf, Item, Plain, Msg, Message, with_part, message_from, Part, parts, unknown_of, is_of}
-use Rattle.pg_dyn.specs.reading.Content.{is_unknown, counted, by_key, entry_in, plain_content, content}
-use Rattle.pg_dyn.specs.reading.Decoding.{Reader, read_item, read_part, field_parts, all_readable, read_records}
+use Rattle.pg_dyn.specs.reading.Content.{is_unknown, counted, plain_content, content}
+use Rattle.pg_dyn.specs.reading.Decoding.{Reader, read_part, field_parts, all_readable, read_records}
 use Rattle.pg_dyn.proofs.Lists.{each-map, each_of_all, filter_all, filter_none, filter-append', each_weaker, option_map_some, and_then_some}
 use Rattle.pg_dyn.proofs.lemmas.reading.Fields.{field_of}
 
@@ -26,10 +25,7 @@ Gives g (x ∷ xs) (y ∷ ys) = (g x ≡ Some y) × Gives g xs ys
 pub all_some_gives : {A B : Type 0} (g : A → Option B) (xs : List A) (ys : List B) → all_some (map g xs) ≡ Some ys → Gives g xs ys
 all_some_gives g [] [] h = tt
 all_some_gives g [] (y ∷ ys) h = absurd (cc)
-all_some_gives g (x ∷ xs) ys h =
-    let (first, at, after) = and_then_some (λ z. option_map (λ zs. z ∷ zs) (all_some (map g xs))) (g x) ys h in
-    let (others, rest, made) = option_map_some (λ zs. first ∷ zs) (all_some (map g xs)) ys after in
-    subst (Gives g (x ∷ xs)) made (at, all_some_gives g xs others rest)
+all_some_gives g (x ∷ xs) ys h = search (rules, and_then_some, option_map_some, all_some_gives g xs)
 
 parts-with_part : (n : ℕ) (key : Option Leaf) (item : Item) (later : Message) → (parts (with_part n key item later) ≡ record { number = n; key = key; item = item } ∷ parts later) × (unknown_of (with_part n key item later) ≡ unknown_of later)
 parts-with_part n key (Plain leaf) later = (refl, refl)
@@ -37,10 +33,7 @@ parts-with_part n key (Msg child) later = (refl, refl)
 
 pub parts-message_from : (ps : List (Part Item)) (us : List WireRecord) → (parts (message_from ps us) ≡ ps) × (unknown_of (message_from ps us) ≡ us)
 parts-message_from [] us = (refl, refl)
-parts-message_from (p ∷ ps) us =
-    let front = parts-with_part p.number p.key p.item (message_from ps us) in
-    let rest = parts-message_from ps us in
-    (front.0 ∙ ap (λ qs. p ∷ qs) rest.0, front.1 ∙ rest.1)
+parts-message_from (p ∷ ps) us = search (rules, parts-with_part, parts-message_from ps us)
 
 -- The parts that are read of a field have its number.
 
@@ -48,23 +41,15 @@ abbrev AllOf : {A : Type 0} → ℕ → List (Part A) → Type 0
 AllOf n ps = AllByRecursion (λ p. p.number ≡ n) ps
 
 plain_numbers : (f : FieldShape) (rs : List WireRecord) (ps : List (Part Leaf)) → option_map (map (λ leaf. record { number = f.number; key = None; item = leaf })) (plain_content f rs) ≡ Some ps → AllOf f.number ps
-plain_numbers f rs ps h =
-    let (leaves, read, made) = option_map_some (map (λ leaf. record { number = f.number; key = None; item = leaf })) (plain_content f rs) ps h in
-    subst (AllOf f.number) made (each-map (λ (p : Part Leaf). p.number ≡ f.number) (λ leaf. record { number = f.number; key = None; item = leaf }) leaves (each_of_all (λ leaf. f.number ≡ f.number) (λ leaf. refl) leaves))
+plain_numbers f rs ps h = search (rules, option_map_some, each-map, each_of_all)
 
 numbers_in_field : (n : ℕ) (p : Presence) (e : Element) (oneof : Option ℕ) (rs : List WireRecord) (ps : List (Part Leaf)) → content (field_of n p e oneof) rs ≡ Some ps → AllOf n ps
-numbers_in_field n presences.Implicit e oneof rs ps h = plain_numbers (field_of n presences.Implicit e oneof) rs ps h
-numbers_in_field n presences.Explicit e oneof rs ps h = plain_numbers (field_of n presences.Explicit e oneof) rs ps h
-numbers_in_field n (presences.Repeated packed) e oneof rs ps h = plain_numbers (field_of n (presences.Repeated packed) e oneof) rs ps h
-numbers_in_field n (presences.Map key) e oneof rs ps h =
-    let (entries, read, made) = option_map_some (λ es. map (λ (x : Leaf × Leaf). record { number = n; key = Some x.0; item = x.1 }) (by_key es)) (all_some (map (entry_in key e) rs)) ps h in
-    subst (AllOf n) made (each-map (λ (p : Part Leaf). p.number ≡ n) (λ (x : Leaf × Leaf). record { number = n; key = Some x.0; item = x.1 }) (by_key entries) (each_of_all (λ x. n ≡ n) (λ x. refl) (by_key entries)))
+numbers_in_field n p e oneof rs ps h =
+    grind (arith, plain_numbers, field_of, option_map_some, each-map, each_of_all)
 
 module _ (child : Reader) (e : Element) where
   read_number : (p : Part Leaf) (q : Part Item) → read_part child e p ≡ Some q → q.number ≡ p.number
-  read_number p q h =
-      let (item, read, made) = option_map_some (λ i. record { number = p.number; key = p.key; item = i }) (read_item child e p.item) q h in
-      ap (λ (x : Part Item). x.number) (sym made)
+  read_number p q h = search (rules, option_map_some)
 
   read_numbers : (n : ℕ) (ps : List (Part Leaf)) (qs : List (Part Item)) → Gives (read_part child e) ps qs → AllOf n ps → AllOf n qs
   read_numbers n [] [] g h = tt
@@ -118,15 +103,13 @@ module _ (g : FieldShape → Option (List (Part Item))) (numbers : (f : FieldSha
   no_piece [] (ps ∷ pss) n gives found = absurd gives
   no_piece (x ∷ fs) [] n gives found = absurd gives
   no_piece (x ∷ fs) (ps ∷ pss) n gives found =
-      elim (nat_eq x.number n) as (λ b. nat_eq x.number n ≡ b → cond b (Some x) (field_at fs n) ≡ None → filter (is_of n) (ps ++ joined pss) ≡ []) [
-        | true ↦ λ e k. absurd (cc)
-        | false ↦ λ e k.
-            let apart : x.number ≢ n = λ at. differ e at in
-            filter-append' (is_of n) ps (joined pss) ∙ ap₂ (λ xs ys. xs ++ ys) (dropped x.number n ps apart (numbers x ps gives.0)) (no_piece fs pss n gives.1 k)
-      ] refl found
-    where
-      differ : nat_eq x.number n ≡ false → x.number ≡ n → ⊥
-      differ e at = let k = eq-eqb x.number n at in cc
+      search (
+        rules,
+        filter-append' (is_of n) ps (joined pss),
+        dropped x.number n ps,
+        no_piece fs pss n gives.1,
+        eq-eqb x.number n,
+      )
 
 -- what a reading of records gave
 pub record IsReading (child : Reader) (fs : List FieldShape) (rs : List WireRecord) (m : Message) : Type 0 where
@@ -136,13 +119,7 @@ pub record IsReading (child : Reader) (fs : List FieldShape) (rs : List WireReco
   pub made : message_from (joined pieces) (filter (is_unknown fs) rs) ≡ m
 
 pub reading_of : (child : Reader) (fs : List FieldShape) (rs : List WireRecord) (m : Message) → read_records child fs rs ≡ Some m → IsReading child fs rs m
-reading_of child fs rs m h =
-    elim (all_readable child fs rs) as (λ b. all_readable child fs rs ≡ b → cond b (option_map (λ ps. message_from (joined ps) (filter (is_unknown fs) rs)) (all_some (map (field_parts child fs rs) fs))) None ≡ Some m → IsReading child fs rs m) [
-      | true ↦ λ e k.
-          let (pieces, read, made) = option_map_some (λ ps. message_from (joined ps) (filter (is_unknown fs) rs)) (all_some (map (field_parts child fs rs) fs)) m k in
-          record { readable = e; pieces = pieces; gives = all_some_gives (field_parts child fs rs) fs pieces read; made = made }
-      | false ↦ λ e k. absurd (cc)
-    ] refl h
+reading_of child fs rs m h = search (rules, option_map_some, all_some_gives)
 
 module _ (child : Reader) (fs : List FieldShape) (rs : List WireRecord) (m : Message) (rising : Rising fs) (reading : IsReading child fs rs m) where
   parts_are : parts m ≡ joined reading.pieces

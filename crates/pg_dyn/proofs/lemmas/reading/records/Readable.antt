@@ -1,5 +1,5 @@
 -- Each record that is written of a field has a reading.
-use Rattle.std.proofs.Common.{◌≡◌, ℕ, ◌^◌, ◌<◌, List, [], ◌∷◌, ◌++◌, map, filter, flat_map, length, Bool, true, false, not, ◌||◌, nat_eq, Option, Some, is_some, refl, ap, sym, ◌∙◌, subst}
+use Rattle.std.proofs.Common.{◌≡◌, ℕ, ◌^◌, ◌<◌, List, [], ◌∷◌, ◌++◌, map, filter, flat_map, length, Bool, true, false, not, ◌||◌, nat_eq, Option, Some, is_some, refl, ap, sym, ◌∙◌, subst, arith}
 use Rattle.std.specs.Bool.{⊤}
 use Rattle.std.specs.List.{AllByRecursion, list_all}
 use Rattle.std.proofs.lemmas.Bool.{eqb-true, and_parts, and_from}
@@ -34,14 +34,10 @@ ChildReads child (elements.Scalar s) leaf = ⊤
 ChildReads child (elements.Enum e) leaf = ⊤
 
 is_child_body : (child : Reader) (e : Element) (leaf : Leaf) → IsNestedLeaf e leaf → ChildReads child e leaf → is_child child e (body (form e) leaf) ≡ true
-is_child_body child (elements.Message t) leaf nested reads = rw nested reads
-is_child_body child (elements.Scalar s) leaf nested reads = refl
-is_child_body child (elements.Enum e) leaf nested reads = refl
+is_child_body child e leaf nested reads = grind arith
 
 is_child_packable : (child : Reader) (e : Element) (bytes : List ℕ) → is_packable e ≡ true → is_child child e bytes ≡ true
-is_child_packable child (elements.Message t) bytes h = absurd (cc)
-is_child_packable child (elements.Scalar s) bytes h = refl
-is_child_packable child (elements.Enum e) bytes h = refl
+is_child_packable child e bytes h = grind arith
 
 or_true : (b : Bool) → (b || true) ≡ true
 or_true b = elim b as (λ x. (x || true) ≡ true) [ true ↦ refl | false ↦ refl ]

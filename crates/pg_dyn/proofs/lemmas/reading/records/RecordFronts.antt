@@ -1,5 +1,5 @@
 -- The records of bytes, one after the other.
-use Rattle.std.proofs.Common.{◌≡◌, ℕ, List, [], ◌∷◌, ◌++◌, length, Result, Ok, Err, ap, sym, ◌∙◌, append_assoc, length-append, refl, ◌+◌, ◌≤◌, arith}
+use Rattle.std.proofs.Common.{◌≡◌, ℕ, List, [], ◌∷◌, ◌++◌, length, Result, Ok, Err, ap, sym, ◌∙◌, append_assoc, length-append, refl, ◌+◌, ◌≤◌, arith, rules}
 use Rattle.std.proofs.lemmas.List.{append-nil}
 use Rattle.pg_wire.proofs.Bind.{ok_pair}
 use Rattle.pg_wire.proofs.RecordLaws.{Spells-more, record_at_takes, records_of_Spells}
@@ -22,9 +22,7 @@ none_yet bytes = record { front = []; rest = bytes; joined = refl; left_is = ref
 
 module _ (bytes : List ℕ) (left : List (Result WireRecord WireError)) (rs : List WireRecord) (a : Front bytes left rs) where
   pub all_read : left ≡ [] → records_of bytes ≡ Ok rs
-  all_read none =
-      ap records_of (a.joined ∙ ap (λ xs. a.front ++ xs) (end_step (length a.front) a.rest (sym a.left_is ∙ none)) ∙ append-nil a.front)
-      ∙ records_of_Spells a.front rs a.spelled
+  all_read none = search (rules, end_step, append-nil, records_of_Spells)
 
   pub no_records : (e : WireError) (later : List (Result WireRecord WireError)) → left ≡ Err e ∷ later → (all : List WireRecord) → records_of bytes ≡ Ok all → ⊥
   no_records e later h all whole =

@@ -1,10 +1,8 @@
 -- What readable records make.
-use Rattle.std.proofs.Common.{◌≡◌, ℕ, List, [], map, filter, Bool, true, false, cond, Option, Some, None, option_map, refl}
+use Rattle.std.proofs.Common.{◌≡◌, ℕ, List, [], map, filter, true, Option, Some, rules, arith}
 use Rattle.std.specs.List.{AllByRecursion}
 use Rattle.pg_schema.specs.declared.parts.field.Element.{Element}
-use Rattle.pg_schema.specs.declared.parts.field.Element.TheVariants as elements
 use Rattle.pg_schema.specs.declared.parts.field.Presence.{Presence}
-use Rattle.pg_schema.specs.declared.parts.field.Presence.TheVariants as presences
 use Rattle.pg_schema.specs.Shape.{FieldShape}
 use Rattle.pg_wire.specs.Records.{WireRecord}
 use Rattle.pg_dyn.specs.reading.Optional.{all_some, joined}
@@ -21,28 +19,14 @@ assembled child fs rs h readable each = rw (readable, all_some-map (field_parts 
 
 -- no records, no parts
 no_items : (n : ℕ) (p : Presence) (e : Element) (oneof : Option ℕ) → content (field_of n p e oneof) [] ≡ Some []
-no_items n presences.Implicit (elements.Scalar s) o = refl
-no_items n presences.Implicit (elements.Enum s) o = refl
-no_items n presences.Implicit (elements.Message s) o = refl
-no_items n presences.Explicit (elements.Scalar s) o = refl
-no_items n presences.Explicit (elements.Enum s) o = refl
-no_items n presences.Explicit (elements.Message s) o = refl
-no_items n (presences.Repeated packed) e o = refl
-no_items n (presences.Map key) e o = refl
+no_items n p e o = grind arith
 
 pub content_none : (f : FieldShape) → content f [] ≡ Some []
 content_none f = no_items f.number f.presence f.element f.oneof
 
 pub pieces_of : (child : Reader) (fs : List FieldShape) (rs : List WireRecord) (m : Message) → read_records child fs rs ≡ Some m
     → (pieces : List (List (Part Item))) × (all_readable child fs rs ≡ true) × (all_some (map (field_parts child fs rs) fs) ≡ Some pieces) × (message_from (joined pieces) (filter (is_unknown fs) rs) ≡ m)
-pieces_of child fs rs m h = of (all_readable child fs rs) refl h
-  where
-    of : (b : Bool) → all_readable child fs rs ≡ b → cond b (option_map (λ ps. message_from (joined ps) (filter (is_unknown fs) rs)) (all_some (map (field_parts child fs rs) fs))) None ≡ Some m
-        → (pieces : List (List (Part Item))) × (all_readable child fs rs ≡ true) × (all_some (map (field_parts child fs rs) fs) ≡ Some pieces) × (message_from (joined pieces) (filter (is_unknown fs) rs) ≡ m)
-    of false e k = absurd (cc)
-    of true e k =
-        let (pieces, read, made) = option_map_some (λ ps. message_from (joined ps) (filter (is_unknown fs) rs)) (all_some (map (field_parts child fs rs) fs)) m k in
-        (pieces, e, read, made)
+pieces_of child fs rs m h = search (rules, option_map_some)
 
 pub built : (child : Reader) (fs : List FieldShape) (rs : List WireRecord) (pieces : List (List (Part Item))) → all_readable child fs rs ≡ true → all_some (map (field_parts child fs rs) fs) ≡ Some pieces
     → read_records child fs rs ≡ Some (message_from (joined pieces) (filter (is_unknown fs) rs))

@@ -1,5 +1,5 @@
 -- What is written and what is read split by field number.
-use Rattle.std.proofs.Common.{◌≡◌, ◌≢◌, ℕ, ◌<◌, List, [], ◌∷◌, ◌++◌, map, filter, Bool, true, false, ◌||◌, cond, nat_eq, Option, Some, None, refl, ap, ap₂, sym, ◌∙◌, subst, arith, eq-eqb, ne_eqb, append-nil}
+use Rattle.std.proofs.Common.{◌≡◌, ◌≢◌, ℕ, ◌<◌, List, [], ◌∷◌, ◌++◌, map, filter, Bool, true, false, ◌||◌, cond, nat_eq, Option, Some, None, refl, ap₂, sym, ◌∙◌, subst, arith, eq-eqb, ne_eqb, append-nil, rules}
 use Rattle.std.specs.List.{AllByRecursion, list_any}
 use Rattle.std.proofs.lemmas.Bool.{eqb-true, and_parts}
 use Rattle.pg_schema.specs.declared.parts.field.Element.{Element}
@@ -28,9 +28,7 @@ found_later f g fs n ne h = rw (ne_eqb f.number n ne) at h
 -- a field that is found has the number looked for
 pub found_number : (fs : List FieldShape) (n : ℕ) (f : FieldShape) → field_at fs n ≡ Some f → f.number ≡ n
 found_number [] n f h = absurd (cc)
-found_number (g ∷ fs) n f h =
-    elim (nat_eq g.number n) as (λ b. nat_eq g.number n ≡ b → cond b (Some g) (field_at fs n) ≡ Some f → f.number ≡ n)
-    [ true ↦ λ e k. let same : g ≡ f = cc in ap (λ (x : FieldShape). x.number) (sym same) ∙ eqb-true g.number n e | false ↦ λ e k. found_number fs n f k ] refl h
+found_number (g ∷ fs) n f h = search (rules, eqb-true, found_number fs n f)
 
 -- each field of a type is found by its number
 pub each_found : (fs : List FieldShape) → Rising fs → AllByRecursion (λ f. field_at fs f.number ≡ Some f) fs
@@ -64,14 +62,7 @@ field_records_number f qs = numbers_of_field f.number f.element f.oneof f.presen
 
 -- a field without content has no records
 pub field_records_none : (f : FieldShape) → field_records f [] ≡ []
-field_records_none f = of f.number f.presence f.element f.oneof
-  where
-    of : (number : ℕ) (p : Presence) (e : Element) (oneof : Option ℕ) → field_records (field_of number p e oneof) [] ≡ []
-    of number presences.Implicit e oneof = refl
-    of number presences.Explicit e oneof = refl
-    of number (presences.Repeated true) e oneof = refl
-    of number (presences.Repeated false) e oneof = refl
-    of number (presences.Map key) e oneof = refl
+field_records_none f = search (rules, field_of)
 
 -- records of one number, under the test for another or the same
 pub number_kept : (m n : ℕ) (rs : List WireRecord) → m ≡ n → AllByRecursion (λ (r : WireRecord). r.number ≡ m) rs → filter (of_number n) rs ≡ rs
@@ -84,10 +75,14 @@ module _ (ps : List (Part Leaf)) where
   none_above : (fs : List FieldShape) (n : ℕ) → AllByRecursion (λ g. n < g.number) fs → filter (of_number n) (records_in fs ps) ≡ []
   none_above [] n h = refl
   none_above (g ∷ fs) n h =
-      let apart : g.number ≢ n = omega (arith, h.0) in
-      let own = field_records g (filter (is_of g.number) ps) in
-      filter-append' (of_number n) own (records_in fs ps)
-      ∙ ap₂ (λ xs ys. xs ++ ys) (number_dropped g.number n own apart (field_records_number g (filter (is_of g.number) ps))) (none_above fs n h.1)
+      search (
+        rules,
+        arith,
+        filter-append' (of_number n),
+        number_dropped g.number n,
+        field_records_number g (filter (is_of g.number) ps),
+        none_above fs n h.1,
+      )
 
   -- The records of a number are those that its field's content wrote.
   pub records_of_number : (fs : List FieldShape) (n : ℕ) (f : FieldShape) → Rising fs → field_at fs n ≡ Some f → filter (of_number n) (records_in fs ps) ≡ field_records f (filter (is_of n) ps)
@@ -114,17 +109,14 @@ module _ (ps : List (Part Leaf)) where
   pub records_of_no_number : (fs : List FieldShape) (n : ℕ) → field_at fs n ≡ None → filter (of_number n) (records_in fs ps) ≡ []
   records_of_no_number [] n h = refl
   records_of_no_number (g ∷ fs) n h =
-      let own = field_records g (filter (is_of g.number) ps) in
-      filter-append' (of_number n) own (records_in fs ps)
-      ∙ elim (nat_eq g.number n) as (λ b. nat_eq g.number n ≡ b → cond b (Some g) (field_at fs n) ≡ None → filter (of_number n) own ++ filter (of_number n) (records_in fs ps) ≡ []) [
-        | true ↦ λ e k. absurd (cc)
-        | false ↦ λ e k.
-            let apart : g.number ≢ n = λ at. absurd (differ e at) in
-            ap₂ (λ xs ys. xs ++ ys) (number_dropped g.number n own apart (field_records_number g (filter (is_of g.number) ps))) (records_of_no_number fs n k)
-      ] refl h
-    where
-      differ : nat_eq g.number n ≡ false → g.number ≡ n → ⊥
-      differ e at = let k = eq-eqb g.number n at in cc
+      search (
+        rules,
+        filter-append' (of_number n),
+        number_dropped g.number n,
+        field_records_number g (filter (is_of g.number) ps),
+        records_of_no_number fs n,
+        eq-eqb g.number n,
+      )
 
 -- What is after the last item of a test can be filtered first, where the filter keeps each item of the test.
 
@@ -134,15 +126,7 @@ module _ {A : Type 0} (keep test : A → Bool) (kept : (x : A) → test x ≡ tr
 
   list_any-filter : (xs : List A) → list_any test (filter keep xs) ≡ list_any test xs
   list_any-filter [] = refl
-  list_any-filter (x ∷ xs) =
-      elim (keep x) as (λ b. keep x ≡ b → list_any test (cond b (x ∷ filter keep xs) (filter keep xs)) ≡ (test x || list_any test xs)) [
-        | true ↦ λ k. ap (λ t. test x || t) (list_any-filter xs)
-        | false ↦ λ k. list_any-filter xs ∙ dropped (test x) refl k
-      ] refl
-    where
-      dropped : (b : Bool) → test x ≡ b → keep x ≡ false → list_any test xs ≡ (b || list_any test xs)
-      dropped true e k = absurd (not_dropped x e k)
-      dropped false e k = refl
+  list_any-filter (x ∷ xs) = search (rules, list_any-filter xs, not_dropped)
 
   pub after_last_of-filter : (xs : List A) → after_last_of test (filter keep xs) ≡ filter keep (after_last_of test xs)
   after_last_of-filter [] = refl

@@ -1,5 +1,5 @@
 -- Runs of records of one number, in records by rising number, and the contents that they say.
-use Rattle.std.proofs.Common.{◌≡◌, ◌≢◌, ℕ, zero, suc, ◌+◌, ◌-◌, ◌<◌, ◌≤◌, List, [], ◌∷◌, ◌++◌, length, map, get_or, take, drop, length-drop, true, Option, Some, refl, ap, sym, subst, ◌∙◌, arith}
+use Rattle.std.proofs.Common.{◌≡◌, ◌≢◌, ℕ, zero, suc, ◌+◌, ◌-◌, ◌<◌, ◌≤◌, List, [], ◌∷◌, ◌++◌, length, map, get_or, take, drop, length-drop, true, Option, Some, refl, ap, sym, subst, ◌∙◌, arith, rules}
 use Rattle.std.specs.List.{AllByRecursion}
 use Rattle.std.proofs.lemmas.List.{drop-drop, get_or-drop, map-append, take_all}
 use Rattle.std.proofs.Math.Seq.{drop-cons, take-add}
@@ -124,11 +124,7 @@ module _ (shape : Shape) (levels : ℕ) (type : TypeId) (sorted : List Record) w
       are_of = each_weaker (Own f) (λ r. IsRecord r × (takes f r ≡ true)) (λ r h. (h.0, h.1.taken)) (map seen_record rows) own_rows
 
       some_rows : take (end - place) (drop place sorted) ≢ []
-      some_rows none = of (end - place) (omega arith) (subst (λ rs. take (end - place) rs ≡ []) (drop-cons sorted place d here) none)
-        where
-          of : (j : ℕ) → 0 < j → take j (get_or sorted place d ∷ drop (suc place) sorted) ≡ [] → ⊥
-          of zero h e = omega arith
-          of (suc j) h e = absurd (cc)
+      some_rows none = search (rules, arith, drop-cons)
 
       pub one_run : AreOf f (map seen_record (take (end - place) (drop place sorted))) × (take (end - place) (drop place sorted) ≢ [])
       one_run = (are_of, some_rows)
@@ -220,9 +216,7 @@ module _ (shape : Shape) (levels : ℕ) (type : TypeId) (sorted : List Record) w
     whole = subst (λ rs. ReadSoFar shape type (map seen_record rs) cs) all_taken was.read
 
     all_good : RecordsGood shape levels (fields shape type) (map seen_record sorted)
-    all_good =
-        each_good shape levels (fields shape type) (map seen_record sorted)
-        (subst (λ rs. AllByRecursion (IsGood shape levels (fields shape type)) (map seen_record rs)) all_taken was.good)
+    all_good = search (rules, each_good, all_taken)
 
     all_read : read_records (dec shape) (fields shape type) (map seen_record sorted) ≡ Some (message_of (fields_onto cs (ends type [])))
     all_read = whole_read shape type (map seen_record sorted) cs rising all whole all_good.0

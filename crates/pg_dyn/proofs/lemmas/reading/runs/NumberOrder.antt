@@ -1,5 +1,5 @@
 -- Records by rising number.
-use Rattle.std.proofs.Common.{◌≡◌, ℕ, suc, ◌<◌, ◌≤◌, List, [], ◌∷◌, ◌++◌, length, get_or, filter, Bool, not, ◌&&◌, nat_eq, refl, sym, ◌∙◌, arith}
+use Rattle.std.proofs.Common.{◌≡◌, ℕ, suc, ◌<◌, ◌≤◌, List, [], ◌∷◌, ◌++◌, length, get_or, filter, Bool, not, ◌&&◌, nat_eq, refl, sym, ◌∙◌, arith, rules}
 use Rattle.std.specs.Prelude.{nat_lt}
 use Rattle.std.specs.List.{AllByRecursion}
 use Rattle.std.specs.List.Sorted.{IsNonDecreasingBy, IsStableBy, ties}
@@ -22,9 +22,7 @@ rise_more (x ∷ rs) r last rise below above =
 
 pub highest_more : (rs : List Record) (r : Record) (last : ℕ) → AllByRecursion (λ (x : Record). x.number ≤ last) rs → last ≤ r.number
     → AllByRecursion (λ (x : Record). x.number ≤ r.number) (rs ++ r ∷ [])
-highest_more rs r last below above =
-    each-append (λ (x : Record). x.number ≤ r.number) rs (r ∷ [])
-    (each_weaker (λ (x : Record). x.number ≤ last) (λ (x : Record). x.number ≤ r.number) (λ x h. omega (arith, h, above)) rs below) (omega arith, tt)
+highest_more rs r last below above = search (rules, arith, each-append, each_weaker)
 
 -- Sorted records.
 

@@ -1,11 +1,9 @@
 -- The words of the records of a list of numbers.
-use Rattle.std.proofs.Common.{◌≡◌, ℕ, ◌<◌, ◌^◌, List, [], ◌∷◌, ◌++◌, map, true, false, Some, refl, ap, sym, subst, ◌∙◌}
+use Rattle.std.proofs.Common.{◌≡◌, ℕ, ◌<◌, ◌^◌, List, [], ◌∷◌, ◌++◌, map, true, false, Some, refl, ap, sym, subst, ◌∙◌, rules}
 use Rattle.std.proofs.lemmas.List.{map-append}
-use Rattle.pg_schema.specs.declared.parts.field.Element.{Element}
 use Rattle.pg_schema.specs.Shape.{FieldShape, is_packable}
 use Rattle.pg_wire.specs.declared.record.WireType.{WireType}
 use Rattle.pg_wire.specs.Records.{WireRecord}
-use Rattle.pg_dyn.specs.declared.message_ref.ValueRef.{ValueRef}
 use Rattle.pg_dyn.specs.message_ref.Borrowed.{leaf_of}
 use Rattle.pg_dyn.specs.word.Coding.{form, form_wire, leaf_in, scalar_form, word_in}
 use Rattle.pg_dyn.specs.word.NumberLists.{number_item}
@@ -41,9 +39,4 @@ module _ (f : FieldShape) (rs : List WireRecord) (r : WireRecord) (old new : Lis
   -- a packed list more
   pub row_numbers : same_wire r.wire (form_wire (form f.element)) ≡ false → RowReads (read_as f.element) r.body old new
       → NumbersSoFar rs old → NumbersSoFar (rs ++ r ∷ []) new
-  row_numbers other read so_far =
-      more_items f rs r (map (number_item (scalar_form (read_as f.element))) old) (map (number_item (scalar_form (read_as f.element))) read.0)
-      (map (number_item (scalar_form (read_as f.element))) new) so_far
-      (row_items f r other ∙ read.2)
-      read.3
-      (ap (map (number_item (scalar_form (read_as f.element)))) read.1 ∙ map-append (number_item (scalar_form (read_as f.element))) old read.0)
+  row_numbers other read so_far = search (rules, more_items, row_items, map-append)

@@ -1,8 +1,7 @@
 -- The records of oneofs' members that count, noted one by one.
-use Rattle.std.proofs.Common.{◌≡◌, ◌≢◌, ℕ, suc, ◌+◌, ◌<◌, ◌≤◌, List, [], ◌∷◌, ◌++◌, length, filter, Bool, true, false, true≢false, not, ◌&&◌, cond, nat_eq, Option, Some, None, refl, ap, ap₂, sym, ◌∙◌, arith, ⊎_elim, eq-eqb, ne_eqb, eqb-true, length-append}
-use Rattle.std.specs.Prelude.{nat_le, nat_lt}
-use Rattle.std.specs.Ordering.{is_eq, nat_cmp}
-use Rattle.std.specs.declared.cmp.Ordering.TheVariants.{Less, Greater}
+use Rattle.std.proofs.Common.{◌≡◌, ◌≢◌, ℕ, suc, ◌+◌, ◌<◌, ◌≤◌, List, [], ◌∷◌, ◌++◌, length, filter, Bool, true, false, true≢false, ◌&&◌, cond, nat_eq, Option, Some, None, refl, ap, ap₂, sym, ◌∙◌, arith, eq-eqb, ne_eqb, eqb-true, length-append, rules, ⊎_elim}
+use Rattle.std.specs.Prelude.{nat_le}
+use Rattle.std.specs.Ordering.{nat_cmp}
 use Rattle.std.specs.BTreeMap.{get, is_at}
 use Rattle.std.proofs.lemmas.Bool.{and_parts, and_from, cases_eq, le-leb, lt-leb, not-true}
 use Rattle.std.proofs.Math.Bool.{and-false}
@@ -25,13 +24,8 @@ use Rattle.pg_dyn.proofs.lemmas.laws.Flat.{sibling_apart}
 pub filter_at-append : {A : Type 0} (test : ℕ → A → Bool) (place end : ℕ) (xs : List A) (x : A) → place + length xs ≡ end
     → filter_at test place (xs ++ x ∷ []) ≡ filter_at test place xs ++ cond (test end x) (x ∷ []) []
 filter_at-append test place end [] x e = let at : place ≡ end = omega (arith, e) in ap (λ p. cond (test p x) (x ∷ []) []) at
-filter_at-append test place end (y ∷ xs) x e = of (test place y) (filter_at-append test (suc place) end xs x (omega (arith, e)))
-  where
-    of : (b : Bool) → filter_at test (suc place) (xs ++ x ∷ []) ≡ filter_at test (suc place) xs ++ cond (test end x) (x ∷ []) []
-        → cond b (y ∷ filter_at test (suc place) (xs ++ x ∷ [])) (filter_at test (suc place) (xs ++ x ∷ []))
-        ≡ cond b (y ∷ filter_at test (suc place) xs) (filter_at test (suc place) xs) ++ cond (test end x) (x ∷ []) []
-    of true again = ap (λ ys. y ∷ ys) again
-    of false again = again
+filter_at-append test place end (y ∷ xs) x e =
+    search (rules, arith, filter_at-append test (suc place) end xs x)
 
 pub filter_at_alike : {A : Type 0} (t u : ℕ → A → Bool) (place : ℕ) (xs : List A) → ((p : ℕ) (x : A) → p < place + length xs → t p x ≡ u p x)
     → filter_at t place xs ≡ filter_at u place xs
@@ -64,11 +58,7 @@ module _ (oneof_runs : OneofRuns) (g : FieldShape) where
 
   counts_not : (oneof : ℕ) → g.oneof ≡ Some oneof → ((s : OneofRun) → get nat_cmp oneof_runs.by_oneof oneof ≡ Some s → s.number ≢ g.number) → (p : ℕ)
       → counts_at oneof_runs g p ≡ false
-  counts_not oneof is apart p = of (get nat_cmp oneof_runs.by_oneof oneof) refl
-    where
-      of : (got : Option OneofRun) → get nat_cmp oneof_runs.by_oneof oneof ≡ got → counts_at oneof_runs g p ≡ false
-      of None e = counts_in oneof is None e p
-      of (Some s) e = counts_in oneof is (Some s) e p ∙ ap (λ b. b && nat_le s.start p) (ne_eqb s.number g.number (apart s e))
+  counts_not oneof is apart p = search (rules, counts_in, ne_eqb)
 
 -- One more record that a field takes.
 
@@ -83,16 +73,10 @@ pub record NextRuns (f : FieldShape) (place : ℕ) (old new : OneofRuns) : Type 
 module _ (fs : List FieldShape) (rising : Rising fs) (f : FieldShape) (found : field_at fs f.number ≡ Some f) (r : WireRecord) (taken : takes f r ≡ true) where
   -- a field that takes the record is f
   taker : (g : FieldShape) → field_at fs g.number ≡ Some g → takes g r ≡ true → g ≡ f
-  taker g found_g takes_g =
-      let at_g : r.number ≡ g.number = eqb-true r.number g.number (takes_number g r takes_g) in
-      let at_f : r.number ≡ f.number = eqb-true r.number f.number (takes_number f r taken) in
-      let same : ◌≡◌ {A = Option FieldShape} (Some g) (Some f) = sym found_g ∙ ap (field_at fs) (sym at_g ∙ at_f) ∙ found in
-      cc
+  taker g found_g takes_g = search (rules, eqb-true, takes_number)
 
   not_own : is_sibling f f ≡ true → ⊥
-  not_own h =
-      absurd (true≢false (sym (eq-eqb f.number f.number refl)
-      ∙ not-true (nat_eq f.number f.number) ((and_parts (same_oneof f.oneof f.oneof) (not (nat_eq f.number f.number)) h).1)))
+  not_own h = search (rules, true≢false, eq-eqb, not-true, and_parts)
 
   cleared : (g : FieldShape) → clears fs g r ≡ is_sibling g f
   cleared g = of (is_sibling g f) refl
@@ -111,8 +95,7 @@ module _ (fs : List FieldShape) (rising : Rising fs) (f : FieldShape) (found : f
   module _ (rs : List WireRecord) (old new : OneofRuns) (h : AreOneofRuns fs rs old) (n : NextRuns f (length rs) old new) where
     none_counts : (oneof_runs : OneofRuns) (g : FieldShape) (xs : List WireRecord) → ((p : ℕ) → counts_at oneof_runs g p ≡ false)
         → filter_at (λ p x. takes g x && counts_at oneof_runs g p) 0 xs ≡ []
-    none_counts oneof_runs g xs fails =
-        filter_at_none (λ p x. takes g x && counts_at oneof_runs g p) 0 xs (λ p x. ap (λ b. takes g x && b) (fails p) ∙ and-false (takes g x))
+    none_counts oneof_runs g xs fails = search (rules, filter_at_none, and-false)
 
     last : (g : FieldShape) → field_at fs g.number ≡ Some g → (b : Bool) → takes g r ≡ b → b ≡ (b && counts_at new g (length rs))
     last g found_g true t = sym (ap (λ x. counts_at new x (length rs)) (taker g found_g t) ∙ n.own)
@@ -146,71 +129,55 @@ module _ (fs : List FieldShape) (rising : Rising fs) (f : FieldShape) (found : f
         apart : (b : Bool) → takes g r ≡ b → b ≡ false
         apart true t = absurd (not_own (ap (λ x. is_sibling x f) (sym (taker g found_g t)) ∙ e))
         apart false t = refl
-    all every g found_g false e =
-        kept g e ∙ ap (λ xs. xs ++ cond (takes g r) (r ∷ []) []) (h.all (n.all every) g found_g) ∙ sym (filter-append' (takes g) rs (r ∷ []))
+    all every g found_g false e = search (rules, kept, filter-append')
 
     pub noted : AreOneofRuns fs (rs ++ r ∷ []) new
-    noted = record {
-      which = λ g found_g. which g found_g (is_sibling g f) refl;
-      begun = λ oneof s is. let low = n.begun oneof s is in omega (arith, low, length-append rs (r ∷ []));
-      all = λ every g found_g. all every g found_g (is_sibling g f) refl;
-    }
+    noted = search (rules, arith, which, length-append, all)
 
 -- What the next oneof_runs are.
 
 sibling_shares : (f g : FieldShape) (oneof : ℕ) → f.oneof ≡ Some oneof → is_sibling g f ≡ true → g.oneof ≡ Some oneof
-sibling_shares f g oneof is h =
-    shared_is g.oneof oneof (ap (same_oneof g.oneof) (sym is) ∙ (and_parts (same_oneof g.oneof f.oneof) (not (nat_eq g.number f.number)) h).0)
+sibling_shares f g oneof is h = search (rules, shared_is, and_parts)
 
 own_number : (f g : FieldShape) (oneof : ℕ) → f.oneof ≡ Some oneof → g.oneof ≡ Some oneof → is_sibling g f ≡ false → g.number ≡ f.number
 own_number f g oneof in_f in_g apart =
-    ⊎_elim (λ same. same)
-    (λ other. absurd (true≢false (sym (and_from (same_oneof g.oneof f.oneof) (not (nat_eq g.number f.number))
-    (ap₂ same_oneof in_g in_f ∙ eq-eqb oneof oneof refl) (ap not (ne_eqb g.number f.number other))) ∙ apart)))
-    (cases_eq g.number f.number)
+    search (rules, true≢false, and_from, eq-eqb, ne_eqb, cases_eq)
 
 module _ (f : FieldShape) (place : ℕ) (old : OneofRuns) (begun : (oneof : ℕ) (s : OneofRun) → get nat_cmp old.by_oneof oneof ≡ Some s → s.start ≤ place) where
   pub in_none : f.oneof ≡ None → NextRuns f place old old
-  in_none is = record {
-    all = λ h. h;
-    begun = begun;
-    own = counts_outside old f is place;
-    others = λ g apart p inside. refl;
-    siblings = λ g sibling. absurd (true≢false (sym sibling ∙ no_sibling_behind g f is));
-    before = λ every g sibling. absurd (true≢false (sym sibling ∙ no_sibling_behind g f is));
-  }
+  in_none is = search (rules, all, counts_outside, true≢false, no_sibling_behind)
 
   module _ (oneof : ℕ) (is : f.oneof ≡ Some oneof) where
     pub goes_on : (s : OneofRun) → get nat_cmp old.by_oneof oneof ≡ Some s → s.number ≡ f.number → NextRuns f place old old
     goes_on s here own =
-        let siblings : (g : FieldShape) → is_sibling g f ≡ true → (p : ℕ) → counts_at old g p ≡ false =
-        λ g sibling p. counts_in old g oneof (sibling_shares f g oneof is sibling) (Some s) here p
-        ∙ ap (λ b. b && nat_le s.start p) (ne_eqb s.number g.number (λ e. sibling_apart g f sibling (sym e ∙ own))) in
-        record {
-          all = λ h. h;
-          begun = begun;
-          own = counts_in old f oneof is (Some s) here place
-              ∙ and_from (nat_eq s.number f.number) (nat_le s.start place) (eq-eqb s.number f.number own) (le-leb s.start place (begun oneof s here));
-          others = λ g apart p inside. refl;
-          siblings = siblings;
-          before = λ every. siblings;
-        }
+        search (
+          rules,
+          counts_in,
+          sibling_shares,
+          ne_eqb,
+          sibling_apart,
+          all,
+          and_from,
+          eq-eqb,
+          le-leb,
+        )
 
     module _ (new : OneofRuns) (s : OneofRun) (number : s.number ≡ f.number) (start : s.start ≡ place) (here : get nat_cmp new.by_oneof oneof ≡ Some s)
         (away : (q : ℕ) → q ≢ oneof → get nat_cmp new.by_oneof q ≡ get nat_cmp old.by_oneof q)
         (was : (t : OneofRun) → get nat_cmp old.by_oneof oneof ≡ Some t → t.number ≢ f.number)
         (all : new.all_count ≡ true → (old.all_count ≡ true) × (get nat_cmp old.by_oneof oneof ≡ None)) where
       others : (g : FieldShape) → is_sibling g f ≡ false → (p : ℕ) → p < place → (o : Option ℕ) → g.oneof ≡ o → counts_at new g p ≡ counts_at old g p
-      others g apart p inside None in_g = counts_outside new g in_g p ∙ sym (counts_outside old g in_g p)
-      others g apart p inside (Some q) in_g =
-          ⊎_elim (λ same.
-          let shared : g.oneof ≡ Some oneof = in_g ∙ ap (λ n. Some n) same in
-          let own = own_number f g oneof is shared apart in
-          counts_in new g oneof shared (Some s) here p ∙ ap (λ b. nat_eq s.number g.number && b) (lt-leb s.start p (omega (arith, inside, start)))
-          ∙ and-false (nat_eq s.number g.number)
-          ∙ sym (counts_not old g oneof shared (λ t h e. was t h (e ∙ own)) p))
-          (λ other. counts_in new g q in_g (get nat_cmp old.by_oneof q) (away q other) p ∙ sym (counts_in old g q in_g (get nat_cmp old.by_oneof q) refl p))
-          (cases_eq q oneof)
+      others g apart p inside o in_g =
+          grind (
+            arith,
+            counts_outside,
+            own_number,
+            counts_in,
+            lt-leb,
+            and-false,
+            counts_not,
+            cases_eq,
+          )
 
       pub begins : NextRuns f place old new
       begins = record {
@@ -229,5 +196,4 @@ module _ (f : FieldShape) (place : ℕ) (old : OneofRuns) (begun : (oneof : ℕ)
 
 -- what a map has under another number
 pub not_at : (oneof q : ℕ) → q ≢ oneof → is_at (nat_cmp oneof) q ≡ false
-not_at oneof q apart =
-    rw (ne_eqb oneof q (λ e. apart (sym e))) (elim (nat_lt oneof q) as (λ b. is_eq (cond b Less Greater) ≡ false) [ true ↦ refl | false ↦ refl ])
+not_at oneof q apart = search (rules, ne_eqb)

@@ -1,12 +1,11 @@
 -- Items of the records of a field that is no map and holds no messages.
-use Rattle.std.proofs.Common.{◌≡◌, ℕ, List, [], ◌∷◌, ◌++◌, map, filter, Bool, true, false, true≢false, not, cond, ◌&&◌, Option, Some, None, is_some, option_map, option_and_then, refl, ap, ap₂, sym, subst, ◌∙◌}
+use Rattle.std.proofs.Common.{◌≡◌, ℕ, List, [], ◌∷◌, ◌++◌, map, filter, true, false, true≢false, not, cond, Option, Some, None, is_some, option_map, option_and_then, refl, ap, sym, subst, ◌∙◌, rules, arith}
 use Rattle.std.specs.List.{AllByRecursion}
 use Rattle.std.proofs.lemmas.Bool.{and_parts, true_from_ne_false}
 use Rattle.std.proofs.lemmas.List.{map-append}
 use Rattle.pg_schema.specs.declared.parts.field.Element.{Element}
 use Rattle.pg_schema.specs.declared.parts.field.Element.TheVariants as elements
 use Rattle.pg_schema.specs.declared.parts.field.Presence.{Presence}
-use Rattle.pg_schema.specs.declared.parts.field.Presence.TheVariants as presences
 use Rattle.pg_schema.specs.declared.parts.field.Scalar.{Scalar}
 use Rattle.pg_schema.specs.Shape.{FieldShape, Shape, is_implicit, is_map, is_packable, is_repeated}
 use Rattle.pg_wire.specs.Records.{IsRecord, WireRecord}
@@ -16,8 +15,8 @@ use Rattle.pg_dyn.specs.declared.message_ref.ValueRef.{ValueRef}
 use Rattle.pg_dyn.specs.reading.ByFields.{AreGood, HoldsOf}
 use Rattle.pg_dyn.specs.word.Coding.{form, form_wire, leaf_in, scalar_form, HasShape}
 use Rattle.pg_dyn.specs.reading.Content.{last_item, leaves_in, packed_leaves, plain_content, same_wire, takes}
-use Rattle.pg_dyn.specs.message_ref.BorrowedItems.{ItemKept, is_zero_value}
-use Rattle.pg_dyn.specs.reading.Decoding.{dec, is_child, read_part}
+use Rattle.pg_dyn.specs.message_ref.BorrowedItems.{ItemKept}
+use Rattle.pg_dyn.specs.reading.Decoding.{dec, read_part}
 use Rattle.pg_dyn.specs.reading.Held.{IsHeldList, item_left, read_as}
 use Rattle.pg_dyn.specs.reading.ItemRuns.{AllRead, AreItemsOf}
 use Rattle.pg_dyn.specs.message.Message.{Item, Leaf, Part, Plain, is_zero}
@@ -25,7 +24,7 @@ use Rattle.pg_dyn.specs.reading.Optional.{all_some, joined, last_of}
 use Rattle.pg_dyn.specs.reading.ReadingOn.{IsNoMessage}
 use Rattle.pg_dyn.specs.message_ref.BorrowedItems.{IsItemKept}
 use Rattle.pg_dyn.specs.message_ref.Borrowed.{IsKey, item_seen, leaf_of}
-use Rattle.pg_dyn.specs.reading.Steps.{FieldReads, HeldFits, IsShallow, item_of, part_of, parts_held}
+use Rattle.pg_dyn.specs.reading.Steps.{FieldReads, HeldFits, IsShallow, part_of, parts_held}
 use Rattle.pg_dyn.proofs.lemmas.reading.FieldKinds.{form_as, lists_no_map}
 use Rattle.pg_dyn.proofs.lemmas.reading.records.FieldRecords.{own_leaves, packable_of, reads_scalar, row_leaves, shape_of_body}
 use Rattle.pg_dyn.proofs.lemmas.reading.by_fields.PlainFields.{readable_is, content_plain}
@@ -84,9 +83,7 @@ module _ (f : FieldShape) (r : WireRecord) where
 
   pub own_shape : (s : Scalar) → s ≡ read_as f.element → IsRecord r → same_wire r.wire (form_wire (form f.element)) ≡ true
       → HasShape (form_wire (scalar_form s)) r.body
-  own_shape s is is_record own =
-      subst (λ x. HasShape (form_wire x) r.body) (form_as f.element ∙ ap scalar_form (sym is))
-      (shape_of_body r.wire (form_wire (form f.element)) is_record.before r.body own is_record.is_body)
+  own_shape s is is_record own = search (rules, form_as, shape_of_body)
 
   -- a record of an element that can't be packed is of its wire type
   pub own_of_single : takes f r ≡ true → is_map f.presence ≡ false → is_packable f.element ≡ false → same_wire r.wire (form_wire (form f.element)) ≡ true
@@ -97,11 +94,7 @@ module _ (f : FieldShape) (r : WireRecord) where
 
   pub item_there : same_wire r.wire (form_wire (form f.element)) ≡ true → is_some (leaves_in f r) ≡ true
       → is_some (leaf_in (scalar_form (read_as f.element)) r.body) ≡ true
-  item_there own some = of (leaf_in (form f.element) r.body) refl
-    where
-      of : (o : Option Leaf) → leaf_in (form f.element) r.body ≡ o → is_some (leaf_in (scalar_form (read_as f.element)) r.body) ≡ true
-      of None is = absurd (true≢false (sym some ∙ rw (own, is)))
-      of (Some leaf) is = ap (λ x. is_some (leaf_in x r.body)) (sym (form_as f.element)) ∙ ap is_some is
+  item_there own some = search (rules, true≢false, form_as)
 
   pub row_there : same_wire r.wire (form_wire (form f.element)) ≡ false → is_some (leaves_in f r) ≡ true
       → is_some (packed_leaves (scalar_form (read_as f.element)) r.body) ≡ true
@@ -111,10 +104,7 @@ module _ (f : FieldShape) (r : WireRecord) where
 
 each_read : {A B : Type 0} (g : A → Option B) (xs : List A) (ys : List B) → all_some (map g xs) ≡ Some ys → AllByRecursion (λ x. (y : B) × (g x ≡ Some y)) xs
 each_read g [] ys h = tt
-each_read {A} {B} g (x ∷ xs) ys h =
-    let (y, here, more) = and_then_some (λ z. option_map (λ zs. z ∷ zs) (all_some (map g xs))) (g x) ys h in
-    let (zs, later, made) = option_map_some (λ (zs : List B). y ∷ zs) (all_some (map g xs)) ys more in
-    ((y, here), each_read g xs zs later)
+each_read {A} {B} g (x ∷ xs) ys h = search (rules, and_then_some, option_map_some, each_read g xs)
 
 module _ (f : FieldShape) (no_map : is_map f.presence ≡ false) (scalar : IsNoMessage f.element) where
   pub all_good : (shape : Shape) (levels : ℕ) (rs : List WireRecord) (rows : List (List Leaf)) → all_some (map (leaves_in f) rs) ≡ Some rows
@@ -129,13 +119,10 @@ module _ (f : FieldShape) (no_map : is_map f.presence ≡ false) (scalar : IsNoM
       )
 
   pub items_good : (shape : Shape) (levels : ℕ) (rs : List WireRecord) (vs : List ValueRef) → AreItemsOf f rs vs → AreGood shape levels f rs
-  items_good shape levels rs vs h =
-      let (rows, is, made) = option_map_some joined (all_some (map (leaves_in f) rs)) (map leaf_of vs) h.0 in all_good shape levels rs rows is
+  items_good shape levels rs vs h = search (rules, option_map_some, all_good)
 
   pub good_read : (shape : Shape) (levels : ℕ) (r : WireRecord) → FieldReads shape f r × IsShallow shape levels f r → is_some (leaves_in f r) ≡ true
-  good_read shape levels r h =
-      (and_parts (is_some (leaves_in f r)) (is_child (dec shape) f.element r.body)
-      (sym (readable_is (dec shape) f.number f.presence f.element f.oneof r no_map) ∙ h.0)).0
+  good_read shape levels r h = search (rules, and_parts, readable_is)
 
   pub all_read : (shape : Shape) (levels : ℕ) (rs : List WireRecord) → AreGood shape levels f rs → AllRead f rs
   all_read shape levels [] h = tt
@@ -167,9 +154,7 @@ plain_holds shape f rs ls held no_map scalar read is =
 list_parts : (n : ℕ) (e : Element) (vs : List ValueRef) → AllByRecursion (IsItemKept (read_as e)) vs
     → leaf_parts n (map leaf_of vs) ≡ map part_of (map (λ value. record { number = n; key = None; item = item_seen true value }) vs)
 list_parts n e [] h = refl
-list_parts n e (v ∷ vs) h =
-    ap₂ (λ (i : Item) ps. record { number = n; key = None; item = i } ∷ ps) (ap item_of (sym (key_listed true v (item_is_key (read_as e) v h.0))))
-    (list_parts n e vs h.1)
+list_parts n e (v ∷ vs) h = search (rules, key_listed, item_is_key, list_parts n e vs h.1)
 
 module _ (shape : Shape) (f : FieldShape) (repeated : is_repeated f.presence ≡ true) (scalar : IsNoMessage f.element) (rs : List WireRecord)
     (vs : List ValueRef) (held : Option ContentRef) (h : AreItemsOf f rs vs) (is : IsHeldList vs held) where
@@ -180,22 +165,10 @@ module _ (shape : Shape) (f : FieldShape) (repeated : is_repeated f.presence ≡
 
   held_parts : (ws : List ValueRef) (o : Option ContentRef) → AllByRecursion (IsItemKept (read_as f.element)) ws → IsHeldList ws o
       → leaf_parts f.number (map leaf_of ws) ≡ map part_of (parts_held f.number o)
-  held_parts [] None items k = refl
-  held_parts [] (Some c) items k = absurd k
-  held_parts (w ∷ ws) None items k = absurd k
-  held_parts (w ∷ ws) (Some (contents.One v)) items k = absurd k
-  held_parts (w ∷ ws) (Some (contents.Map es)) items k = absurd k
-  held_parts (w ∷ ws) (Some (contents.Many us)) items k =
-      list_parts f.number f.element (w ∷ ws) items
-      ∙ ap (λ xs. map part_of (map (λ value. record { number = f.number; key = None; item = item_seen true value }) xs)) (sym k)
-  held_parts (w ∷ ws) (Some (contents.Numbers ns)) items k =
-      list_parts f.number f.element (w ∷ ws) items
-      ∙ ap (λ xs. map part_of (map (λ value. record { number = f.number; key = None; item = item_seen true value }) xs)) (sym k)
+  held_parts ws o items k = grind (arith, list_parts)
 
   pub list_holds : HoldsOf shape f rs held
-  list_holds =
-      plain_holds shape f rs (map leaf_of vs) held (lists_no_map f.presence repeated) scalar (rows_content (all_some (map (leaves_in f) rs)) h.0)
-      (held_parts vs held h.1 is)
+  list_holds = search (rules, plain_holds, lists_no_map, rows_content, held_parts)
 
   each_fits : (ws : List ValueRef) → AllByRecursion (IsItemKept (read_as f.element)) ws → AllByRecursion (ItemKept shape f.element) ws
   each_fits [] k = tt
@@ -233,37 +206,18 @@ abbrev last_left : Presence → List Leaf → List Leaf
 last_left p ls = cond (is_implicit p) (filter (λ leaf. not (is_zero leaf)) (last_of ls)) (last_of ls)
 
 last_item_is : (p : Presence) (e : Element) (ls : List Leaf) → IsNoMessage e → last_item p e ls ≡ last_left p ls
-last_item_is p (elements.Message t) ls scalar = absurd scalar
-last_item_is p (elements.Scalar s) ls scalar = refl
-last_item_is p (elements.Enum x) ls scalar = refl
+last_item_is p e ls scalar = grind arith
 
 -- what is left of an item
 left_parts : (n : ℕ) (p : Presence) (v : ValueRef) → IsKey v
     → leaf_parts n (cond (is_implicit p) (filter (λ leaf. not (is_zero leaf)) (leaf_of v ∷ [])) (leaf_of v ∷ [])) ≡ map part_of (parts_held n (item_left p v))
-left_parts n p v key = of (is_implicit p) (is_zero_value v) refl
-  where
-    one : ◌≡◌ {A = List (Part Item)} (record { number = n; key = None; item = Plain (leaf_of v) } ∷ [])
-        (record { number = n; key = None; item = item_of (item_seen false v) } ∷ [])
-    one = ap (λ (i : Item). record { number = n; key = None; item = i } ∷ []) (ap item_of (sym (key_seen v key)))
-
-    of : (b z : Bool) → is_zero_value v ≡ z
-        → leaf_parts n (cond b (filter (λ leaf. not (is_zero leaf)) (leaf_of v ∷ [])) (leaf_of v ∷ []))
-        ≡ map part_of (parts_held n (cond (b && is_zero_value v) None (Some (contents.One v))))
-    of false z is = one
-    of true true is = let zero : is_zero (leaf_of v) ≡ true = sym (zero_of_key v key) ∙ is in rw (zero, is)
-    of true false is = let zero : is_zero (leaf_of v) ≡ false = sym (zero_of_key v key) ∙ is in rw (zero, is) one
+left_parts n p v key = search (rules, key_seen, zero_of_key)
 
 not_implicit : (p : Presence) (v : ValueRef) → IsKey v → is_implicit p ≡ false → LeafMayBeZero p (item_seen false v)
-not_implicit presences.Implicit v key h = absurd (cc)
-not_implicit presences.Explicit v key h = rw (key_seen v key) tt
-not_implicit (presences.Repeated packed) v key h = rw (key_seen v key) tt
-not_implicit (presences.Map k) v key h = rw (key_seen v key) tt
+not_implicit p v key h = grind (arith, key_seen)
 
 not_zero : (p : Presence) (v : ValueRef) → IsKey v → is_zero (leaf_of v) ≡ false → LeafMayBeZero p (item_seen false v)
-not_zero presences.Implicit v key h = rw (key_seen v key) h
-not_zero presences.Explicit v key h = rw (key_seen v key) tt
-not_zero (presences.Repeated packed) v key h = rw (key_seen v key) tt
-not_zero (presences.Map k) v key h = rw (key_seen v key) tt
+not_zero p v key h = grind (arith, key_seen)
 
 module _ (shape : Shape) (f : FieldShape) (singular : is_repeated f.presence ≡ false) (no_map : is_map f.presence ≡ false) (scalar : IsNoMessage f.element)
     (rs : List WireRecord) (v : ValueRef) (h : LastSoFar f rs (Some v)) where
@@ -271,28 +225,8 @@ module _ (shape : Shape) (f : FieldShape) (singular : is_repeated f.presence ≡
   item = let k = subst (AllByRecursion (IsItemKept (read_as f.element))) h.last_is (each_last (IsItemKept (read_as f.element)) h.values h.so_far.items) in k.0
 
   pub last_holds : HoldsOf shape f rs (item_left f.presence v)
-  last_holds =
-      let last : last_of (joined h.so_far.rows) ≡ leaf_of v ∷ [] = ap last_of h.so_far.joined_is ∙ map_last h.values ∙ ap (map leaf_of) h.last_is in
-      plain_holds shape f rs (cond (is_implicit f.presence) (filter (λ leaf. not (is_zero leaf)) (leaf_of v ∷ [])) (leaf_of v ∷ []))
-      (item_left f.presence v) no_map scalar
-      (ap (option_map (λ rows. cond (is_repeated f.presence) (joined rows) (last_item f.presence f.element (joined rows)))) h.so_far.read
-      ∙ rw singular (ap (λ ls. Some ls) (last_item_is f.presence f.element (joined h.so_far.rows) scalar
-      ∙ ap (λ xs. cond (is_implicit f.presence) (filter (λ leaf. not (is_zero leaf)) xs) xs) last)))
-      (left_parts f.number f.presence v (item_is_key (read_as f.element) v item))
+  last_holds = search (rules, map_last, plain_holds, last_item_is, left_parts, item_is_key, item)
 
   pub last_fits : HeldFits shape f (item_left f.presence v)
-  last_fits = of (is_implicit f.presence) (is_zero_value v) refl refl
-    where
-      fits : ItemKept shape f.element v
-      fits = item_as shape f.element v scalar item
-
-      key : IsKey v
-      key = item_is_key (read_as f.element) v item
-
-      held : LeafMayBeZero f.presence (item_seen false v) → HeldFits shape f (Some (contents.One v))
-      held zero = one_held shape f v singular no_map fits zero
-
-      of : (b z : Bool) → is_implicit f.presence ≡ b → is_zero_value v ≡ z → HeldFits shape f (cond (b && z) None (Some (contents.One v)))
-      of false z implicit is = held (not_implicit f.presence v key implicit)
-      of true true implicit is = tt
-      of true false implicit is = held (not_zero f.presence v key (sym (zero_of_key v key) ∙ is))
+  last_fits =
+      search (rules, item_as, item, item_is_key, one_held, not_implicit, not_zero, zero_of_key)
