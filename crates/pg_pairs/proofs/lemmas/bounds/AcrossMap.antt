@@ -1,5 +1,5 @@
 -- Between maps, entries whose keys and values are seen are read as they were written.
-use Rattle.std.proofs.Common.{◌≡◌, ℕ, ◌<◌, ◌^◌, List, [], ◌∷◌, ◌++◌, length, map, Bool, true, if◌then◌else◌, Option, Some, None, Ok, option_map, option_and_then, is_some, refl, ap, sym, ◌∙◌, subst, eq-eqb}
+use Rattle.std.proofs.Common.{◌≡◌, ℕ, ◌<◌, ◌^◌, List, [], ◌∷◌, ◌++◌, length, map, Bool, true, if◌then◌else◌, Option, Some, None, Ok, option_map, option_and_then, is_some, refl, ap, sym, ◌∙◌, subst, eq-eqb, rules}
 use Rattle.std.specs.List.{AllByRecursion}
 use Rattle.std.specs.declared.cmp.Ordering.TheVariants.{Less}
 use Rattle.std.proofs.lemmas.Bool.{and_from}
@@ -66,11 +66,7 @@ module _ (child : Reader) (k l : Scalar) (e d : Element) (key value : Leaf)
 
   readable_entry : all_plain_readable child (key_field l ∷ value_field d ∷ []) (two_records l d key_bytes value_bytes) ≡ true
   unfolding written
-  readable_entry =
-      let key_same : same_wire (form_wire (form (elements.Scalar l))) (form_wire (form (elements.Scalar l))) ≡ true =
-      subst (λ wire. same_wire wire (form_wire (form (elements.Scalar l))) ≡ true) key_wire key_wires in
-      let value_same : same_wire (form_wire (form d)) (form_wire (form d)) ≡ true = subst (λ wire. same_wire wire (form_wire (form d)) ≡ true) value_wire value_wires in
-      rw (single_read (key_field l) key_bytes key key_seen, single_read (value_field d) value_bytes value value_seen, key_same, value_same, there)
+  readable_entry = search (rules, key_wire, value_wire, single_read)
 
   pub entry_across : (number : ℕ) → length (entry_bytes k e key value) < 2 ^ 64 → entry_in l d (written number Len (entry_bytes k e key value)) ≡ Some (key, value)
   entry_across number fits = (entry_read fits).1 number
@@ -125,15 +121,10 @@ module _ (view : View) (child : Reader) (f g : FieldShape) (k l : Scalar) (numbe
       and_from _ _ (eq-eqb f.number g.number numbers) (new.accepts (entry_bytes k f.element (key_of k (writes c)) c.written))
 
   entry_one : (c : Comparand) → Seen view child f g c × SeenEntry f k l c → entry_in l g.element (record_of c) ≡ Some (entry_of k c)
-  entry_one c (seen, entry) =
-      entry_across child k l f.element g.element (key_of k (writes c)) c.written key_wires value_wires
-      entry.key_seen seen.body_read seen.nested seen.child_there f.number entry.short
+  entry_one c (seen, entry) = search (rules, entry_across)
 
   readable_one : (c : Comparand) → Seen view child f g c × SeenEntry f k l c → is_readable child g (record_of c) ≡ true
-  readable_one c (seen, entry) =
-      new.readable_is (record_of c)
-      ∙ entry_readable child k l f.element g.element (key_of k (writes c)) c.written key_wires value_wires
-      entry.key_seen seen.body_read seen.nested seen.child_there f.number entry.short
+  readable_one c (seen, entry) = search (rules, entry_readable)
 
   entries_back : (cs : List Comparand) → AllByRecursion (λ c. Seen view child f g c × SeenEntry f k l c) cs → map (λ (e : Leaf × Leaf). record { number = g.number; key = Some e.0; item = e.1 }) (map (entry_of k) cs) ≡ map writes cs
   entries_back [] h = refl

@@ -1,5 +1,5 @@
 -- Between fields that are no maps, content whose items are seen is read as it was written.
-use Rattle.std.proofs.Common.{◌≡◌, ℕ, List, [], ◌∷◌, map, flat_map, true, false, ◌&&◌, if◌then◌else◌, Option, Some, None, option_map, is_some, refl, ap, sym, ◌∙◌, subst, eq-eqb, append-nil}
+use Rattle.std.proofs.Common.{◌≡◌, ℕ, List, [], ◌∷◌, map, flat_map, true, false, if◌then◌else◌, Option, Some, None, option_map, is_some, refl, ap, sym, ◌∙◌, subst, eq-eqb, append-nil, rules}
 use Rattle.std.specs.List.{AllByRecursion}
 use Rattle.std.proofs.lemmas.Bool.{and_from, or_left, or_right}
 use Rattle.pg_schema.specs.declared.parts.field.Element.{Element}
@@ -74,16 +74,13 @@ module _ (view : View) (child : Reader) (f g : FieldShape) (numbers : f.number �
 
   takes_item : (c : Comparand) → takes g (item_record_of c) ≡ true
   unfolding written
-  takes_item c =
-      let own : same_wire (form_wire (form f.element)) (own_wire g) ≡ true = rw plain.own wires in
-      and_from _ _ (eq-eqb f.number g.number numbers) (or_left (same_wire (form_wire (form f.element)) (own_wire g)) _ own)
+  takes_item c = search (rules, and_from, eq-eqb, or_left)
 
   wire : form_wire (form f.element) ≡ form_wire (form g.element)
   wire = same_wire-true _ _ wires
 
   leaves_of_item : (c : Comparand) → Seen view child f g c → leaves_in g (item_record_of c) ≡ Some (c.written ∷ [])
-  leaves_of_item c seen =
-      (λ i. leaves_in g (written (numbers i) (wire i) (body (form f.element) c.written))) ∙ single_read g (body (form f.element) c.written) c.written seen.body_read
+  leaves_of_item c seen = search (rules, wire, single_read)
 
   readable_item : (c : Comparand) → Seen view child f g c → is_readable child g (item_record_of c) ≡ true
   unfolding written
@@ -119,24 +116,15 @@ module _ (view : View) (child : Reader) (f g : FieldShape) (numbers : f.number �
 
   takes_packed : is_repeated g.presence ≡ true → is_packable g.element ≡ true → (bytes : List ℕ) → takes g (written f.number Len bytes) ≡ true
   unfolding written
-  takes_packed repeated packable bytes =
-      let list : (is_repeated g.presence && is_packable g.element) ≡ true = rw (repeated, packable) in
-      and_from _ _ (eq-eqb f.number g.number numbers) (or_right (same_wire Len (own_wire g)) _ list)
+  takes_packed repeated packable bytes = search (rules, and_from, eq-eqb, or_right)
 
   leaves_of_packed : is_packable g.element ≡ true → (cs : List Comparand) → AllByRecursion (Seen view child f g) cs → leaves_in g (written f.number Len (flat_map (λ (d : Comparand). body (form f.element) d.written) cs)) ≡ Some (map (λ (d : Comparand). d.written) cs)
   unfolding written
-  leaves_of_packed packable cs seen =
-      rw (packable_wires g.element packable)
-      (packed_read g.element (λ (d : Comparand). body (form f.element) d.written) (λ (d : Comparand). d.written) packable cs
-      (each_weaker (Seen view child f g) (λ d. IsReadAs (form g.element) (body (form f.element) d.written) d.written) (λ d s. s.body_read) cs seen))
+  leaves_of_packed packable cs seen = search (rules, packable_wires, packed_read, each_weaker)
 
   -- a packed list, read by a list
   pub across_packed : IsPackedList f → is_repeated g.presence ≡ true → is_packable f.element ≡ true → (cs : List Comparand) → AllByRecursion (Seen view child f g) cs → AllByRecursion (Sits g) cs → Across child f g cs
-  across_packed list repeated packable [] seen sits = record {
-    taken = subst (AllByRecursion (λ r. takes g r ≡ true)) (sym list.none) tt;
-    readable = subst (AllByRecursion (λ r. is_readable child g r ≡ true)) (sym list.none) tt;
-    content_is = rw (list.none, plain.content_is [], repeated);
-  }
+  across_packed list repeated packable [] seen sits = search rules
   across_packed list repeated packable (c ∷ cs) seen sits =
       let bytes = flat_map (λ (d : Comparand). body (form f.element) d.written) (c ∷ cs) in
       let record_is : WireRecord = written f.number Len bytes in

@@ -1,5 +1,5 @@
 -- Content of one comparand that the new field's reader doesn't see.
-use Rattle.std.proofs.Common.{◌≡◌, ℕ, ◌+◌, List, [], ◌∷◌, length, map, filter, Bool, true, false, not, ◌&&◌, nat_eq, cond, if◌then◌else◌, Option, Some, None, option_map, option_and_then, refl, ap, sym, ◌∙◌, subst, eq-eqb, append-nil}
+use Rattle.std.proofs.Common.{◌≡◌, ℕ, ◌+◌, List, [], ◌∷◌, length, map, filter, Bool, true, false, not, ◌&&◌, cond, if◌then◌else◌, Option, Some, None, option_map, option_and_then, refl, ap, sym, ◌∙◌, subst, eq-eqb, append-nil, rules}
 use Rattle.std.specs.Bool.{⊤}
 use Rattle.std.specs.List.{AllByRecursion}
 use Rattle.std.proofs.lemmas.Bool.{and_from, and_left, and_right, or_left}
@@ -15,8 +15,8 @@ use Rattle.pg_wire.specs.Records.{WireRecord, tag, written}
 use Rattle.pg_dyn.specs.reading.Optional.{all_some, joined, last_of}
 use Rattle.pg_dyn.specs.message.Message.{Leaf, Bytes, Item, Plain, Msg, Message, Part, is_of, is_zero}
 use Rattle.pg_dyn.specs.word.Coding.{form, form_wire, body, leaf_in}
-use Rattle.pg_dyn.specs.reading.Content.{same_wire, own_wire, is_accepted, takes, leaves_in, last_item, plain_content, content}
-use Rattle.pg_dyn.specs.encoding.Writing.{item_record, field_records, bytes_of}
+use Rattle.pg_dyn.specs.reading.Content.{same_wire, takes, leaves_in, last_item, content}
+use Rattle.pg_dyn.specs.encoding.Writing.{item_record, field_records}
 use Rattle.pg_dyn.specs.reading.Decoding.{Reader, read_part}
 use Rattle.pg_dyn.specs.views.Comparison.{View, Expected, Alike, is_zero_expected, is_zero_item, hides_zero, same_key, matches, alike_leaves, Kept, Comparand, writes, expects}
 use Rattle.pg_dyn.proofs.Lists.{all_some-map_map, each_weaker, each_of_all, each-map, and_then_some, option_map_some}
@@ -37,9 +37,7 @@ NoneMatches view f g c qs = AllByRecursion (λ (q : Part Item). (same_key c.key 
 
 no_partner : {A B : Type 0} (R : A → B → Bool) (x : A) (test : B → Bool) (ys : List B) → AllByRecursion (λ y. R x y ≡ false) ys → pointwise R (x ∷ []) (filter test ys) ≡ false
 no_partner R x test [] h = refl
-no_partner R x test (y ∷ ys) h =
-    elim (test y) as (λ b. pointwise R (x ∷ []) (cond b (y ∷ filter test ys) (filter test ys)) ≡ false)
-    [ true ↦ and_left (R x y) (pointwise R [] (filter test ys)) h.0 | false ↦ no_partner R x test ys h.1 ]
+no_partner R x test (y ∷ ys) h = search (rules, no_partner R x test ys h.1, pointwise, and_left)
 
 pub one_unkept : (view : View) (child : Reader) (f g : FieldShape) (c : Comparand) → c.number ≡ f.number → (hides_zero f g && is_zero_expected c.expected) ≡ false → ((qs : List (Part Item)) → field_read child g (field_records f (writes c ∷ [])) ≡ Some qs → NoneMatches view f g c qs) → is_field_kept view child f g (c ∷ []) ≡ false
 one_unkept view child f g c number visible none = and_right _ _ (of (field_read child g (field_records f (writes c ∷ []))) refl)
@@ -55,9 +53,7 @@ one_unkept view child f g c number visible none = and_right _ _ (of (field_read 
 module _ (view : View) (child : Reader) (f g : FieldShape) (numbers : f.number ≡ g.number) (wires : same_wire (form_wire (form f.element)) (form_wire (form g.element)) ≡ true) (plain : NotMap child g) where
   takes_one : (leaf : Leaf) → takes g (item_record f.number f.element leaf) ≡ true
   unfolding written
-  takes_one leaf =
-      let own : same_wire (form_wire (form f.element)) (own_wire g) ≡ true = rw plain.own wires in
-      and_from _ _ (eq-eqb f.number g.number numbers) (or_left (same_wire (form_wire (form f.element)) (own_wire g)) _ own)
+  takes_one leaf = search (rules, and_from, eq-eqb, or_left)
 
   leaves_one : (leaf : Leaf) → leaves_in g (item_record f.number f.element leaf) ≡ option_map (λ l. l ∷ []) (leaf_in (form g.element) (body (form f.element) leaf))
   unfolding written
@@ -68,16 +64,10 @@ module _ (view : View) (child : Reader) (f g : FieldShape) (numbers : f.number �
   taken leaf = if is_repeated g.presence then joined ((leaf ∷ []) ∷ []) else last_item g.presence g.element (joined ((leaf ∷ []) ∷ []))
 
   pub content_one : (leaf read : Leaf) → leaf_in (form g.element) (body (form f.element) leaf) ≡ Some read → content g (filter (takes g) (item_record f.number f.element leaf ∷ [])) ≡ Some (map (plain_part g.number) (taken read))
-  content_one leaf read e =
-      let kept : filter (takes g) (item_record f.number f.element leaf ∷ []) ≡ item_record f.number f.element leaf ∷ [] = rw (takes_one leaf) in
-      let leaves : leaves_in g (item_record f.number f.element leaf) ≡ Some (read ∷ []) = leaves_one leaf ∙ ap (option_map (λ l. l ∷ [])) e in
-      rw (kept, plain.content_is (item_record f.number f.element leaf ∷ []), leaves)
+  content_one leaf read e = search (rules, takes_one, leaves_one)
 
   pub content_one_none : (leaf : Leaf) → leaf_in (form g.element) (body (form f.element) leaf) ≡ None → content g (filter (takes g) (item_record f.number f.element leaf ∷ [])) ≡ None
-  content_one_none leaf e =
-      let kept : filter (takes g) (item_record f.number f.element leaf ∷ []) ≡ item_record f.number f.element leaf ∷ [] = rw (takes_one leaf) in
-      let leaves : leaves_in g (item_record f.number f.element leaf) ≡ None = leaves_one leaf ∙ ap (option_map (λ l. l ∷ [])) e in
-      rw (kept, plain.content_is (item_record f.number f.element leaf ∷ []), leaves)
+  content_one_none leaf e = search (rules, takes_one, leaves_one)
 
 -- what a list or a singular field takes of one item is this item or nothing
 abbrev pub IsOneOrNone : Leaf → List Leaf → Type 0
@@ -85,50 +75,23 @@ IsOneOrNone leaf leaves = AllByRecursion (λ l. l ≡ leaf) leaves
 
 last_leafy : (p : Presence) (d : Element) (leaf : Leaf) → IsLeafy d → IsOneOrNone leaf (last_item p d (leaf ∷ []))
 last_leafy p (elements.Message t) leaf h = absurd h
-last_leafy p (elements.Scalar s) leaf h = each-of p leaf
-  where
-    each-of : (q : Presence) (l : Leaf) → IsOneOrNone l (last_item q (elements.Scalar s) (l ∷ []))
-    each-of presences.Implicit l = of (is_zero l)
-      where
-        of : (b : Bool) → IsOneOrNone l (cond (not b) (l ∷ []) [])
-        of true = tt
-        of false = (refl, tt)
-    each-of presences.Explicit l = (refl, tt)
-    each-of (presences.Repeated w) l = (refl, tt)
-    each-of (presences.Map k) l = (refl, tt)
-last_leafy p (elements.Enum s) leaf h = each-of p leaf
-  where
-    each-of : (q : Presence) (l : Leaf) → IsOneOrNone l (last_item q (elements.Enum s) (l ∷ []))
-    each-of presences.Implicit l = of (is_zero l)
-      where
-        of : (b : Bool) → IsOneOrNone l (cond (not b) (l ∷ []) [])
-        of true = tt
-        of false = (refl, tt)
-    each-of presences.Explicit l = (refl, tt)
-    each-of (presences.Repeated w) l = (refl, tt)
-    each-of (presences.Map k) l = (refl, tt)
+last_leafy p (elements.Scalar s) leaf h = search rules
+last_leafy p (elements.Enum s) leaf h = search rules
 
 taken_leafy : (g : FieldShape) (leaf : Leaf) → IsLeafy g.element → IsOneOrNone leaf (if is_repeated g.presence then joined ((leaf ∷ []) ∷ []) else last_item g.presence g.element (joined ((leaf ∷ []) ∷ [])))
-taken_leafy g leaf leafy =
-    elim (is_repeated g.presence) as (λ b. IsOneOrNone leaf (if b then joined ((leaf ∷ []) ∷ []) else last_item g.presence g.element (joined ((leaf ∷ []) ∷ []))))
-    [ true ↦ (refl, tt) | false ↦ last_leafy g.presence g.element leaf leafy ]
+taken_leafy g leaf leafy = search (rules, last_leafy)
 
 abbrev pub leaf_part : ℕ → Leaf → Part Item
 leaf_part number leaf = record { number = number; key = None; item = Plain leaf }
 
 pub leaves_read : (child : Reader) (d : Element) (number : ℕ) (leaves : List Leaf) → IsLeafy d → all_some (map (read_part child d) (map (plain_part number) leaves)) ≡ Some (map (leaf_part number) leaves)
 leaves_read child d number leaves leafy =
-    all_some-map_map (read_part child d) (plain_part number) (leaf_part number) leaves
-    (each_of_all (λ l. read_part child d (plain_part number l) ≡ Some (leaf_part number l)) (λ l. rw ((leafy_reader child d leafy).read_is l)) leaves)
+    search (rules, all_some-map_map, plain_part, each_of_all, leafy_reader)
 
 -- a leaf that isn't alike matches nothing
 pub leaves_match_none : (view : View) (child : Reader) (f g : FieldShape) (c : Comparand) (read : Leaf) → IsLeafy g.element → c.expected ≡ Alike c.written → alike_leaves view f.element g.element c.written read ≡ false → (leaves : List Leaf) → IsOneOrNone read leaves → (qs : List (Part Item)) → all_some (map (read_part child g.element) (map (plain_part g.number) leaves)) ≡ Some qs → NoneMatches view f g c qs
 leaves_match_none view child f g c read leafy so unlike leaves h qs e =
-    let same : ◌≡◌ {A = Option (List (Part Item))} (Some (map (leaf_part g.number) leaves)) (Some qs) = sym (leaves_read child g.element g.number leaves leafy) ∙ e in
-    let equal : map (leaf_part g.number) leaves ≡ qs = cc in
-    subst (NoneMatches view f g c) equal
-    (each-map (λ (q : Part Item). (same_key c.key q.key && matches view f g c.expected q.item) ≡ false) (leaf_part g.number) leaves
-    (each_weaker (λ l. l ≡ read) _ (λ l at. and_right (same_key c.key None) _ (rw (so, at) unlike)) leaves h))
+    search (rules, leaves_read, each-map, each_weaker, and_right)
 
 unlike_read : (view : View) (e d : Element) (item read : Leaf) (o : Option Leaf) → o ≡ Some read → is_alike_read view e d item o ≡ false → alike_leaves view e d item read ≡ false
 unlike_read view e d item read o is h = subst (λ x. is_alike_read view e d item x ≡ false) is h
@@ -136,8 +99,7 @@ unlike_read view e d item read o is h = subst (λ x. is_alike_read view e d item
 -- A leaf that isn't seen, in a record of its own.
 pub leaf_broken : (view : View) (child : Reader) (f g : FieldShape) (c : Comparand) → f.number ≡ g.number → same_wire (form_wire (form f.element)) (form_wire (form g.element)) ≡ true → NotMap child g → IsUnpacked f → IsLeafy g.element → c.number ≡ f.number → c.expected ≡ Alike c.written → (hides_zero f g && is_zero c.written) ≡ false → is_seen view f.element g.element c.written ≡ false → is_field_kept view child f g (c ∷ []) ≡ false
 leaf_broken view child f g c numbers wires plain unpacked leafy number so visible unseen =
-    one_unkept view child f g c number (rw so visible)
-    (λ qs e. of qs (leaf_in (form g.element) (body (form f.element) c.written)) refl (sym (ap (field_read child g) (unpacked.records_are (writes c ∷ []))) ∙ e))
+    search (rules, one_unkept, of)
   where
     of : (qs : List (Part Item)) (o : Option Leaf) → leaf_in (form g.element) (body (form f.element) c.written) ≡ o → field_read child g (item_record f.number f.element c.written ∷ []) ≡ Some qs → NoneMatches view f g c qs
     of qs None none e =
@@ -174,9 +136,7 @@ child_broken view child number p q s t o r c plain unpacked at bytes test w so b
         ∙ ap (λ ls. all_some (map (read_part child (elements.Message t)) (map (plain_part number) ls))) (taken_child q t bytes)
 
     of : (qs : List (Part Item)) (m : Option Message) → child t bytes ≡ m → field_read child g (item_record number (elements.Message s) (Bytes bytes) ∷ []) ≡ Some qs → NoneMatches view f g c qs
-    of qs None none e =
-        let no : ◌≡◌ {A = Option (List (Part Item))} None (Some qs) = sym (read ∙ rw none) ∙ e in
-        absurd (cc)
+    of qs None none e = search (rules, read)
     of qs (Some m) some e =
         let equal : ◌≡◌ {A = Option (List (Part Item))} (Some (record { number = number; key = None; item = Msg m } ∷ [])) (Some qs) = sym (read ∙ rw some) ∙ e in
         let same : record { number = number; key = None; item = Msg m } ∷ [] ≡ qs = cc in
@@ -185,28 +145,17 @@ child_broken view child number p q s t o r c plain unpacked at bytes test w so b
 
 -- Lengths of one comparand's content.
 pub unpacked_total : (f : FieldShape) → IsUnpacked f → ((b : ℕ) → one_item f b ≡ length (tag f.number (form_wire (form f.element))) + b) → (c : Comparand) → total f (c ∷ []) ≡ one_item f (body_length (form f.element) c.written)
-unpacked_total f unpacked cost_is c =
-    ap (λ rs. length (bytes_of rs)) (unpacked.records_are (writes c ∷ []))
-    ∙ ap length (append-nil (item_record f.number f.element c.written).bytes)
-    ∙ length-item_record f.number f.element c.written ∙ sym (cost_is (body_length (form f.element) c.written))
+unpacked_total f unpacked cost_is c = search (rules, append-nil, length-item_record)
 
 -- A record that isn't accepted.
 pub untaken_broken : (view : View) (child : Reader) (f g : FieldShape) (c : Comparand) (r : WireRecord) → field_records f (writes c ∷ []) ≡ r ∷ [] → takes g r ≡ false → c.number ≡ f.number → (hides_zero f g && is_zero_expected c.expected) ≡ false → is_field_kept view child f g (c ∷ []) ≡ false
 untaken_broken view child f g c r records untaken number visible =
-    one_unkept view child f g c number visible
-    (λ qs e.
-    let nothing : field_read child g (r ∷ []) ≡ Some [] = rw (untaken, own_contents.1 g) in
-    let equal : ◌≡◌ {A = Option (List (Part Item))} (Some []) (Some qs) = sym nothing ∙ sym (ap (field_read child g) records) ∙ e in
-    let same : ◌≡◌ {A = List (Part Item)} [] qs = cc in
-    subst (NoneMatches view f g c) same tt)
+    search (rules, one_unkept, own_contents)
 
 -- a packed list beside a singular field
 pub packed_untaken : (f g : FieldShape) (child : Reader) → NotMap child g → is_packable g.element ≡ true → is_repeated g.presence ≡ false → (bytes : List ℕ) → takes g (written f.number Len bytes) ≡ false
 unfolding written
-packed_untaken f g child plain packable singular bytes =
-    let own : same_wire Len (own_wire g) ≡ false = rw plain.own (packable_wires g.element packable) in
-    let accepted : is_accepted g (written f.number Len bytes) ≡ false = rw (own, singular) in
-    and_right (nat_eq f.number g.number) (is_accepted g (written f.number Len bytes)) accepted
+packed_untaken f g child plain packable singular bytes = search (rules, packable_wires, and_right)
 
 -- Two items beside a field that takes one at most.
 
@@ -254,17 +203,9 @@ short_map h (x ∷ y ∷ xs) k = absurd k
 
 short_all_some : {A B : Type 0} (h : A → Option B) (xs : List A) → IsShort xs → (ys : List B) → all_some (map h xs) ≡ Some ys → IsShort ys
 short_all_some {A} {B} h [] k ys e = let same : ◌≡◌ {A = List B} [] ys = cc in subst IsShort same tt
-short_all_some {A} {B} h (x ∷ []) k ys e = of (h x) e
-  where
-    of : (o : Option B) → option_and_then (λ y. option_map (λ zs. y ∷ zs) (Some [])) o ≡ Some ys → IsShort ys
-    of (Some y) e = let same : y ∷ [] ≡ ys = cc in subst IsShort same tt
-    of None e = absurd (cc)
+short_all_some {A} {B} h (x ∷ []) k ys e = search (rules, option_and_then)
 short_all_some h (x ∷ y ∷ xs) k ys e = absurd k
 
 pub singular_short : (child : Reader) (g : FieldShape) → NotMap child g → is_repeated g.presence ≡ false → (rs : List WireRecord) (qs : List (Part Item)) → field_read child g rs ≡ Some qs → IsShort qs
 singular_short child g plain singular rs qs e =
-    let (ps, content_is, read) = and_then_some (λ xs. all_some (map (read_part child g.element) xs)) _ qs e in
-    let (leaves, plain_is, made) = option_map_some (map (plain_part g.number)) (plain_content g (filter (takes g) rs)) ps (sym (plain.content_is (filter (takes g) rs)) ∙ content_is) in
-    let (rows, all, taken_is) = option_map_some (λ (xs : List (List Leaf)). if is_repeated g.presence then joined xs else last_item g.presence g.element (joined xs)) (all_some (map (leaves_in g) (filter (takes g) rs))) leaves plain_is in
-    let short : IsShort leaves = subst IsShort (sym (ap (λ b. if b then joined rows else last_item g.presence g.element (joined rows)) singular) ∙ taken_is) (short_last g.presence g.element (joined rows)) in
-    short_all_some (read_part child g.element) ps (subst IsShort made (short_map (plain_part g.number) leaves short)) qs read
+    search (rules, and_then_some, option_map_some, plain_part, short_last, short_all_some, short_map)

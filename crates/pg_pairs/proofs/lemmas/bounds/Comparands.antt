@@ -1,5 +1,5 @@
 -- The comparands of a field: what they hold, what they cost, and whether a reader reads them right.
-use Rattle.std.proofs.Common.{◌≡◌, ℕ, ◌+◌, ◌≤◌, List, [], length, map, flat_map, Bool, true, false, Option, Some, None, unwrap_or, refl, ap, sym, ◌∙◌, subst, arith, length-append}
+use Rattle.std.proofs.Common.{◌≡◌, ℕ, ◌+◌, ◌≤◌, List, [], length, map, flat_map, Bool, true, false, Option, Some, None, unwrap_or, refl, ap, sym, ◌∙◌, subst, arith, length-append, rules}
 use Rattle.std.specs.List.{AllByRecursion}
 use Rattle.pg_schema.specs.declared.parts.field.TypeId.{TypeId}
 use Rattle.pg_schema.specs.declared.parts.field.Scalar.{Scalar}
@@ -179,30 +179,9 @@ passed : (test : Message → Bool) (o : Option Message) → passes test o ≡ tr
 passed test (Some m) h = (m, refl, h)
 passed test None h = absurd (cc)
 
-abbrev with_element : FieldShape → Element → FieldShape
-with_element f e = record { number = f.number; presence = f.presence; element = e; oneof = f.oneof }
-
 -- a child that is kept is seen
 pub child_seen : (view : View) (child : Reader) (f g : FieldShape) (s t : TypeId) (c : Comparand) → Holds (record { number = f.number; presence = f.presence; element = elements.Message s; oneof = f.oneof }) c → (bytes : List ℕ) (test : Message → Bool) → c.written ≡ Bytes bytes → c.expected ≡ Kept test → is_child_kept child t test bytes ≡ true → Seen view child (record { number = f.number; presence = f.presence; element = elements.Message s; oneof = f.oneof }) (record { number = g.number; presence = g.presence; element = elements.Message t; oneof = g.oneof }) c
-child_seen view child f g s t c holds bytes test w so kept =
-    subst (Seen view child (with_element f (elements.Message s)) (with_element g (elements.Message t))) same (of (passed test (child t bytes) kept))
-  where
-    literal : Comparand
-    literal = record { number = c.number; key = c.key; written = Bytes bytes; expected = Kept test }
-
-    same : literal ≡ c
-    same = λ i. record { number = c.number; key = c.key; written = sym w i; expected = sym so i }
-
-    of : (m : Message) × (child t bytes ≡ Some m) × (test m ≡ true) → Seen view child (with_element f (elements.Message s)) (with_element g (elements.Message t)) literal
-    of (m, read, good) = record {
-      number_is = holds.number_is;
-      body_read = record { read = refl; shape = tt };
-      nested = refl;
-      child_there = rw read;
-      there = rw read;
-      met = rw read good;
-      zero_same = rw read;
-    }
+child_seen view child f g s t c holds bytes test w so kept = search (rules, passed)
 
 -- No content: nothing is read, and nothing is shown.
 pub empty_kept : (view : View) (child : Reader) (f g : FieldShape) → is_field_kept view child f g [] ≡ true

@@ -1,5 +1,5 @@
 -- Where no message up to a length breaks each choice costs more.
-use Rattle.std.proofs.Common.{length, ◌≡◌, ℕ, ◌<◌, ◌≤◌, Bool, true, false, nat_le, nat_eq, cond, if◌then◌else◌, Some, None, refl, subst, arith}
+use Rattle.std.proofs.Common.{length, ◌≡◌, ℕ, ◌<◌, ◌≤◌, nat_le, if◌then◌else◌, Some, None, arith, rules}
 use Rattle.std.specs.List.{AllByRecursion}
 use Rattle.std.proofs.lemmas.Bool.{leb-false}
 use Rattle.pg_schema.specs.Shape.{Shape, FieldShape, fields, field_at}
@@ -34,9 +34,7 @@ module _ (old new : Shape) (shape_old : IsShape old) (shape_new : IsShape new) (
     (reached : (p : Pair) (x : ℕ) → table p ≡ Some (Some x) → IsReached by_numbers old new p x) (pair : Pair) (n : ℕ) (small : n ≤ cap)
     (fine : CompatibleTo n old new pair.old pair.new) where
   one_dear : (c : Choice) → IsAmong c (choices by_numbers table old new pair) → n < c.cost
-  one_dear c among =
-      let (u, both) = choices_reached by_numbers old new table by_numbers_is_view shape_old shape_new pair c among (λ p x at less. reached p x at) in
-      subst (λ k. n < k) both.1 (fine u both.0)
+  one_dear c among = search (rules, choices_reached, by_numbers_is_view)
 
   pub all_dear : AllByRecursion (λ (c : Choice). n < c.cost) (all_choices by_numbers table (fields new pair.new) (fields old pair.old))
   all_dear =
@@ -53,17 +51,8 @@ one_bound pair x p = if same_pair pair p then Some (Some x) else None
 
 pub bound_there : (pair : Pair) (x : ℕ) → one_bound pair x pair ≡ Some (Some x)
 unfolding one_bound
-bound_there pair x = rw (self pair.old.index, self pair.new.index) refl
-  where
-    self : (n : ℕ) → nat_eq n n ≡ true
-    self n = grind arith
+bound_there pair x = search rules
 
 pub one_reached : (old new : Shape) (pair : Pair) (x : ℕ) → IsReached by_numbers old new pair x → (p : Pair) (y : ℕ) → one_bound pair x p ≡ Some (Some y) → IsReached by_numbers old new p y
 unfolding one_bound
-one_reached old new pair x is p y at = of (same_pair pair p) refl at
-  where
-    of : (b : Bool) → same_pair pair p ≡ b → cond b (Some (Some x)) None ≡ Some (Some y) → IsReached by_numbers old new p y
-    of true same there =
-        let equal : x ≡ y = cc in
-        subst (λ q. IsReached by_numbers old new q y) (same_pair-true pair p same) (subst (IsReached by_numbers old new pair) equal is)
-    of false same there = absurd (cc)
+one_reached old new pair x is p y at = search (rules, same_pair-true)

@@ -1,12 +1,11 @@
 -- Each comparand is seen, or a choice costs no more than the content.
-use Rattle.std.proofs.Common.{◌≡◌, ℕ, ◌≤◌, List, [], ◌∷◌, length, Bool, true, Option, Some, None, option_map, ◌⊎◌, inl, inr, ⊎_elim, ap, arith, length-append}
+use Rattle.std.proofs.Common.{◌≡◌, ℕ, ◌≤◌, List, [], ◌∷◌, Bool, true, Option, Some, None, option_map, ◌⊎◌, inl, inr, ⊎_elim, length-append, rules}
 use Rattle.std.specs.List.{AllByRecursion}
 use Rattle.std.proofs.lemmas.Bool.{cases_Bool}
 use Rattle.pg_schema.specs.declared.parts.field.TypeId.{TypeId}
 use Rattle.pg_schema.specs.declared.parts.field.Element.{Element}
 use Rattle.pg_schema.specs.declared.parts.field.Element.TheVariants as elements
 use Rattle.pg_schema.specs.Shape.{FieldShape}
-use Rattle.pg_wire.specs.Varint.{varint}
 use Rattle.pg_dyn.specs.views.Comparison.{Kept, Comparand}
 use Rattle.pg_dyn.specs.message.Message.{Leaf, Bytes, Message}
 use Rattle.pg_dyn.specs.word.Coding.{form, InRange}
@@ -18,8 +17,7 @@ use Rattle.pg_pairs.specs.views.ViewLaws.{IsEnumView}
 use Rattle.pg_pairs.specs.gaps.Likeness.{like}
 use Rattle.pg_pairs.specs.gaps.Gaps.{body_length, gap_item}
 use Rattle.pg_pairs.specs.gaps.TrueGaps.{is_seen, ItemCounts, IsGapItem}
-use Rattle.pg_pairs.specs.choices.Costs.{with_length}
-use Rattle.pg_pairs.specs.choices.Choices.{Table, number_for, choice_of, gap_body, child_body}
+use Rattle.pg_pairs.specs.choices.Choices.{Table, choice_of, gap_body, child_body}
 use Rattle.pg_pairs.specs.inner.Contents.{HoldsItem, Holds, is_child_kept, ChildBound}
 use Rattle.pg_pairs.proofs.lemmas.gaps.Lengths.{with_length_rises}
 use Rattle.pg_pairs.proofs.lemmas.gaps.GapItems.{IsLeafy, gap_item_is}
@@ -35,11 +33,7 @@ module _ (enum_view : EnumView) (law : IsEnumView enum_view) (table : Table) (ch
   gap_or : (price : ℕ → ℕ) (zero : Bool) (e d : Element) (o : Option Leaf) → IsGapItem enum_view.alike zero e d o → (number : ℕ) (case : Case) (part : ℕ) → Allowed (choice_of number case part (option_map price (option_map (body_length (form e)) o))) → (n : ℕ) (item : Leaf) → InRange (form e) item → ItemCounts zero item → ((b : ℕ) → b ≤ body_length (form e) item → price b ≤ n) → (is_seen enum_view.alike e d item ≡ true) ⊎ Q n
   gap_or price zero e d None gap number case part allowed n item range counts cost = inl (gap item range counts)
   gap_or price zero e d (Some least) gap number case part allowed n item range counts cost =
-      ⊎_elim (λ yes. inl yes)
-      (λ unseen.
-      inr (up (price (body_length (form e) least)) n
-      (cost (body_length (form e) least) (gap.least item (record { in_range = range; counts = counts; not_seen = unseen }))) allowed.0))
-      (cases_Bool (is_seen enum_view.alike e d item))
+      search (rules, cases_Bool)
 
   pub leaf_or : (price : ℕ → ℕ) (zero : Bool) (e d : Element) → IsLeafy e → like e d ≡ true → (number : ℕ) (case : Case) (part : ℕ) → Allowed (choice_of number case part (option_map price (gap_body enum_view zero e d))) → (n : ℕ) (item : Leaf) → InRange (form e) item → ItemCounts zero item → ((b : ℕ) → b ≤ body_length (form e) item → price b ≤ n) → (is_seen enum_view.alike e d item ≡ true) ⊎ Q n
   leaf_or price zero e d leafy is_like number case part allowed n item range counts cost =
@@ -48,13 +42,7 @@ module _ (enum_view : EnumView) (law : IsEnumView enum_view) (table : Table) (ch
   -- a child is kept, or its pair's bound costs no more
   child_or : (price : ℕ → ℕ) (s t : TypeId) (number : ℕ) (case : Case) (part : ℕ) → Allowed (choice_of number case part (option_map price (child_body table (elements.Message s) (elements.Message t)))) → (n : ℕ) (c : Comparand) (bytes : List ℕ) (test : Message → Bool) → c.written ≡ Bytes bytes → c.expected ≡ Kept test → ChildBound table child (elements.Message s) (elements.Message t) c → ((b : ℕ) → b ≤ body_length (form (elements.Message s)) c.written → price b ≤ n) → (is_child_kept child t test bytes ≡ true) ⊎ Q n
   child_or price s t number case part allowed n c bytes test w so bound cost =
-      ⊎_elim (λ yes. inl yes) (λ broken. inr (of (bound bytes test w so broken))) (cases_Bool (is_child_kept child t test bytes))
-    where
-      of : (x : ℕ) × (number_for table (record { old = s; new = t }) ≡ Some x) × (x ≤ length bytes) → Q n
-      of (x, found, small) =
-          let there : Q (price (with_length x)) = (rw found at allowed).0 in
-          let body : body_length (form (elements.Message s)) c.written ≡ body_length (form (elements.Message s)) (Bytes bytes) = ap (body_length (form (elements.Message s))) w in
-          up _ n (cost (with_length x) (omega (arith, body, with_length_rises x (length bytes) small, length-append (varint (length bytes)) bytes))) there
+      search (rules, cases_Bool, with_length_rises, length-append)
 
   -- A comparand between like elements is seen, or a gap or a child costs no more.
   comparand_or_at : (f g : FieldShape) (zero : Bool) (price : ℕ → ℕ) (e d : Element) → like e d ≡ true → (number : ℕ) (case_gap : Case) (part_gap : ℕ) (case_child : Case) (part_child : ℕ) → Allowed (choice_of number case_gap part_gap (option_map price (gap_body enum_view zero e d))) → Allowed (choice_of number case_child part_child (option_map price (child_body table e d))) → (n : ℕ) (c : Comparand) → Holds (record { number = f.number; presence = f.presence; element = e; oneof = f.oneof }) c → ItemCounts zero c.written → ChildBound table child e d c → ((b : ℕ) → b ≤ body_length (form e) c.written → price b ≤ n) → Seen enum_view.alike child (record { number = f.number; presence = f.presence; element = e; oneof = f.oneof }) (record { number = g.number; presence = g.presence; element = d; oneof = g.oneof }) c ⊎ Q n
@@ -87,5 +75,4 @@ module _ (enum_view : EnumView) (law : IsEnumView enum_view) (table : Table) (ch
 -- all of a list, or the goal
 pub each_or : {A : Type 0} (P : A → Type 0) (G : Type 0) (xs : List A) → AllByRecursion (λ x. P x ⊎ G) xs → AllByRecursion P xs ⊎ G
 each_or P G [] h = inl tt
-each_or P G (x ∷ xs) h =
-    ⊎_elim (λ here. ⊎_elim (λ later. inl (here, later)) (λ g. inr g) (each_or P G xs h.1)) (λ g. inr g) h.0
+each_or P G (x ∷ xs) h = search (rules, each_or P G xs h.1)

@@ -1,6 +1,6 @@
 -- What becomes of a field's content: there is none, or it is hidden, or it crosses, or it costs at least as much as some choice of the
 -- field.
-use Rattle.std.proofs.Common.{◌≡◌, ℕ, ◌<◌, ◌≤◌, ◌^◌, List, [], ◌∷◌, ◌++◌, Bool, true, false, ◌&&◌, Option, Some, None, option_map, unwrap_or, ◌⊎◌, inl, inr, ⊎_elim, refl, sym, subst, arith}
+use Rattle.std.proofs.Common.{◌≡◌, ℕ, ◌<◌, ◌≤◌, ◌^◌, List, [], ◌∷◌, ◌++◌, Bool, true, false, ◌&&◌, Option, Some, None, option_map, unwrap_or, ◌⊎◌, inl, inr, ⊎_elim, refl, sym, subst, arith, rules}
 use Rattle.std.specs.Bool.{⊤}
 use Rattle.std.specs.List.{AllByRecursion}
 use Rattle.std.proofs.lemmas.Bool.{cases_Bool, and_parts}
@@ -13,8 +13,8 @@ use Rattle.pg_schema.specs.declared.parts.field.Presence.TheVariants as presence
 use Rattle.pg_schema.specs.Shape.{FieldShape}
 use Rattle.pg_schema.specs.ShapeRules.{PresenceFits}
 use Rattle.pg_wire.specs.Varint.{varint}
-use Rattle.pg_dyn.specs.message.Message.{Leaf, is_zero}
-use Rattle.pg_dyn.specs.word.Coding.{form, body, zero_leaf, InRange, word_bytes, HasShape}
+use Rattle.pg_dyn.specs.message.Message.{is_zero}
+use Rattle.pg_dyn.specs.word.Coding.{form, body, InRange, word_bytes, HasShape}
 use Rattle.pg_dyn.specs.reading.Decoding.{Reader}
 use Rattle.pg_dyn.specs.encoding.Writing.{key_of}
 use Rattle.pg_dyn.specs.fitting.Belonging.{KeyFits}
@@ -26,7 +26,7 @@ use Rattle.pg_pairs.specs.declared.choices.choice.Choice.{Choice}
 use Rattle.pg_pairs.specs.views.EnumView.{EnumView}
 use Rattle.pg_pairs.specs.views.ViewLaws.{IsEnumView}
 use Rattle.pg_pairs.specs.gaps.Likeness.{like}
-use Rattle.pg_pairs.specs.laws.ReadBack.{is_bool_of_zigzag, is_zigzag}
+use Rattle.pg_pairs.specs.laws.ReadBack.{is_bool_of_zigzag}
 use Rattle.pg_pairs.specs.gaps.Gaps.{body_length}
 use Rattle.pg_pairs.specs.gaps.TrueGaps.{is_seen, ItemCounts}
 use Rattle.pg_pairs.specs.choices.Costs.{least_body, nonzero_body, entry_cost, one_item, least_content}
@@ -53,12 +53,7 @@ leafy_or_not (elements.Message s) = inr refl
 -- a zigzag number beside a bool has a gap of one byte
 zigzag_gap : (enum_view : EnumView) (zero : Bool) (e d : Element) → is_bool_of_zigzag e d ≡ true → (gap_body enum_view zero e d ≡ Some 1) × (least_body e ≡ 1)
 unfolding word_bytes varint
-zigzag_gap enum_view zero (elements.Scalar s) (elements.Scalar scalars.Bool) h = of s h
-  where
-    of : (s : Scalar) → is_zigzag s ≡ true → (gap_body enum_view zero (elements.Scalar s) (elements.Scalar scalars.Bool) ≡ Some 1) × (least_body (elements.Scalar s) ≡ 1)
-    of scalars.Sint32 h = (refl, refl)
-    of scalars.Sint64 h = (refl, refl)
-    of s h = absurd (cc)
+zigzag_gap enum_view zero (elements.Scalar s) (elements.Scalar scalars.Bool) h = search rules
 zigzag_gap enum_view zero (elements.Scalar s) (elements.Scalar t) h = absurd (cc)
 zigzag_gap enum_view zero (elements.Scalar s) (elements.Message t) h = absurd (cc)
 zigzag_gap enum_view zero (elements.Scalar s) (elements.Enum t) h = absurd (cc)
@@ -68,13 +63,7 @@ zigzag_gap enum_view zero (elements.Message s) d h = absurd (cc)
 -- no zigzag number is beside a bool, or the gap costs no more
 not_zigzag : (enum_view : EnumView) (Q : ℕ → Type 0) (up : (m n : ℕ) → m ≤ n → Q m → Q n) (zero : Bool) (e d : Element) (number : ℕ) (case : Case) (part : ℕ) (price : ℕ → ℕ) → AllByRecursion (λ (c : Choice). Q c.cost) (choice_of number case part (option_map price (gap_body enum_view zero e d))) → (whole len : ℕ) → least_body e ≤ len → ((b : ℕ) → b ≤ len → price b ≤ whole) → (is_bool_of_zigzag e d ≡ false) ⊎ Q whole
 not_zigzag enum_view Q up zero e d number case part price gaps whole len least cost =
-    ⊎_elim
-    (λ yes.
-    let gap = zigzag_gap enum_view zero e d yes in
-    let allowed : Q (price 1) = (rw (gap.0) at gaps).0 in
-    inr (up (price 1) whole (cost 1 (subst (λ b. b ≤ len) gap.1 least)) allowed))
-    (λ no. inl no)
-    (cases_Bool (is_bool_of_zigzag e d))
+    search (rules, zigzag_gap, cases_Bool)
 
 module _ (enum_view : EnumView) (law : IsEnumView enum_view) (table : Table) (child : Reader) (Q : ℕ → Type 0) (up : (m n : ℕ) → m ≤ n → Q m → Q n) (number : ℕ) (e d : Element) (o r : Option ℕ) where
   abbrev old : Presence → FieldShape
@@ -194,17 +183,11 @@ module _ (enum_view : EnumView) (law : IsEnumView enum_view) (table : Table) (ch
   by_like (presences.Map k) q no_p no_q (c ∷ rest) known is_like allowed = absurd no_p
   by_like p (presences.Map l) no_p no_q (c ∷ rest) known is_like allowed = absurd no_q
   by_like presences.Implicit presences.Implicit no_p no_q (c ∷ rest) known is_like allowed =
-      crossing presences.Implicit presences.Implicit c rest known refl is_like allowed (never_zero (c ∷ rest) known.holds)
-      (record { no_key = keyless presences.Implicit (λ x h. h.key_fits) (c ∷ rest) known.holds; may_be_zero = never_zero (c ∷ rest) known.holds; one = λ s. known.in_order; unpacked = λ k. absurd (cc); packable = λ k. absurd (cc) })
-      (record { no_map_old = tt; no_map_new = tt; no_key = keyless presences.Implicit (λ x h. h.key_fits) (c ∷ rest) known.holds; one = λ s. known.in_order; not_zero = λ s. never_zero (c ∷ rest) known.holds; unpacked = λ k. absurd (cc) })
+      search (rules, crossing, never_zero, keyless)
   by_like presences.Implicit presences.Explicit no_p no_q (c ∷ rest) known is_like allowed =
-      crossing presences.Implicit presences.Explicit c rest known refl is_like allowed (never_zero (c ∷ rest) known.holds)
-      (record { no_key = keyless presences.Implicit (λ x h. h.key_fits) (c ∷ rest) known.holds; may_be_zero = any (c ∷ rest); one = λ s. known.in_order; unpacked = λ k. absurd (cc); packable = λ k. absurd (cc) })
-      (record { no_map_old = tt; no_map_new = tt; no_key = keyless presences.Implicit (λ x h. h.key_fits) (c ∷ rest) known.holds; one = λ s. known.in_order; not_zero = λ s. never_zero (c ∷ rest) known.holds; unpacked = λ k. absurd (cc) })
+      search (rules, crossing, never_zero, keyless, any)
   by_like presences.Implicit (presences.Repeated w) no_p no_q (c ∷ rest) known is_like allowed =
-      crossing presences.Implicit (presences.Repeated w) c rest known refl is_like allowed (never_zero (c ∷ rest) known.holds)
-      (record { no_key = keyless presences.Implicit (λ x h. h.key_fits) (c ∷ rest) known.holds; may_be_zero = any (c ∷ rest); one = λ s. known.in_order; unpacked = λ k. absurd (cc); packable = λ k. absurd (cc) })
-      (record { no_map_old = tt; no_map_new = tt; no_key = keyless presences.Implicit (λ x h. h.key_fits) (c ∷ rest) known.holds; one = λ s. known.in_order; not_zero = λ s. never_zero (c ∷ rest) known.holds; unpacked = λ k. absurd (cc) })
+      search (rules, crossing, never_zero, keyless, any)
   by_like presences.Explicit presences.Implicit no_p no_q (c ∷ []) known is_like allowed =
       ⊎_elim
       (λ zero. inl (inr (inl (record { explicit = refl; implicit = refl; leafy = leafy_like e d is_like (implicit_leafy d r known.fits_new); comparand = c; one = refl; zero = zero }))))
@@ -215,9 +198,7 @@ module _ (enum_view : EnumView) (law : IsEnumView enum_view) (table : Table) (ch
       (cases_Bool (is_zero c.written))
   by_like presences.Explicit presences.Implicit no_p no_q (c ∷ c' ∷ rest) known is_like allowed = absurd known.in_order
   by_like presences.Explicit presences.Explicit no_p no_q (c ∷ rest) known is_like allowed =
-      crossing presences.Explicit presences.Explicit c rest known refl is_like allowed (any (c ∷ rest))
-      (record { no_key = keyless presences.Explicit (λ x h. h.key_fits) (c ∷ rest) known.holds; may_be_zero = any (c ∷ rest); one = λ s. known.in_order; unpacked = λ k. absurd (cc); packable = λ k. absurd (cc) })
-      (record { no_map_old = tt; no_map_new = tt; no_key = keyless presences.Explicit (λ x h. h.key_fits) (c ∷ rest) known.holds; one = λ s. known.in_order; not_zero = λ s. absurd (cc); unpacked = λ k. absurd (cc) })
+      search (rules, crossing, any, keyless)
   by_like presences.Explicit (presences.Repeated w) no_p no_q (c ∷ rest) known is_like allowed =
       crossing presences.Explicit (presences.Repeated w) c rest known refl is_like allowed (any (c ∷ rest))
       (record { no_key = keyless presences.Explicit (λ x h. h.key_fits) (c ∷ rest) known.holds; may_be_zero = any (c ∷ rest); one = λ s. absurd (cc); unpacked = λ k. absurd (cc); packable = λ k. absurd (cc) })
@@ -229,9 +210,7 @@ module _ (enum_view : EnumView) (law : IsEnumView enum_view) (table : Table) (ch
   by_like (presences.Repeated true) presences.Explicit no_p no_q (c ∷ rest) known is_like allowed =
       by_least (presences.Repeated true) presences.Explicit (c ∷ rest) known (allowed_shape (presences.Repeated true) presences.Explicit is_like allowed).0
   by_like (presences.Repeated false) presences.Explicit no_p no_q (c ∷ []) known is_like allowed =
-      crossing (presences.Repeated false) presences.Explicit c [] known refl is_like allowed (any (c ∷ []))
-      (record { no_key = keyless (presences.Repeated false) (λ x h. h.key_fits) (c ∷ []) known.holds; may_be_zero = any (c ∷ []); one = λ s. tt; unpacked = λ k. absurd (cc); packable = λ k. absurd (cc) })
-      (record { no_map_old = tt; no_map_new = tt; no_key = keyless (presences.Repeated false) (λ x h. h.key_fits) (c ∷ []) known.holds; one = λ s. tt; not_zero = λ s. absurd (cc); unpacked = λ k. absurd (cc) })
+      search (rules, crossing, any, keyless)
   by_like (presences.Repeated false) presences.Explicit no_p no_q (c ∷ c' ∷ rest) known is_like allowed =
       let both = two_cost (old (presences.Repeated false)) (unpacked_repeated number e o) (λ b. refl) c c' rest (least_body e)
       (least_body_below e c.written (comparand_reads e c known.holds.0.item)) (least_body_below e c'.written (comparand_reads e c' known.holds.1.0.item)) in
@@ -248,18 +227,10 @@ module _ (enum_view : EnumView) (law : IsEnumView enum_view) (table : Table) (ch
   -- Maps.
 
   key_there : (k : Scalar) (c : Comparand) → KeyFits (presences.Map k) c.key → c.key ≡ Some (key_of k (writes c))
-  key_there k c h = of c.key h
-    where
-      of : (key : Option Leaf) → KeyFits (presences.Map k) key → key ≡ Some (unwrap_or key (zero_leaf (form (elements.Scalar k))))
-      of None h = absurd h
-      of (Some l) h = refl
+  key_there k c h = search (rules, unwrap_or)
 
   key_range : (k : Scalar) (c : Comparand) → KeyFits (presences.Map k) c.key → InRange (form (elements.Scalar k)) (key_of k (writes c))
-  key_range k c h = of c.key h
-    where
-      of : (key : Option Leaf) → KeyFits (presences.Map k) key → InRange (form (elements.Scalar k)) (unwrap_or key (zero_leaf (form (elements.Scalar k))))
-      of None h = absurd h
-      of (Some l) h = h
+  key_range k c h = search (rules, unwrap_or)
 
   key_seen : (k l : Scalar) → like (elements.Scalar k) (elements.Scalar l) ≡ true → (m : ℕ) → m < 2 ^ 64 → (c : Comparand) → Holds (old (presences.Map k)) c → EntryCosts (old (presences.Map k)) k m c → is_seen enum_view.alike (elements.Scalar k) (elements.Scalar l) (key_of k (writes c)) ≡ true → SeenEntry (old (presences.Map k)) k l c
   key_seen k l is_like m small c holds cost seen =

@@ -1,5 +1,5 @@
 -- A message that breaks with the content of one field alone costs at least the field's cheapest choice.
-use Rattle.std.proofs.Common.{◌≡◌, ℕ, ◌≤◌, List, [], ◌∷◌, length, false, Option, Some, None, refl, subst, arith}
+use Rattle.std.proofs.Common.{◌≡◌, ℕ, ◌≤◌, List, [], ◌∷◌, length, false, Option, Some, None, refl, subst, arith, rules}
 use Rattle.std.specs.List.{AllByRecursion}
 use Rattle.pg_schema.specs.declared.parts.field.Element.{Element}
 use Rattle.pg_schema.specs.declared.parts.field.Element.TheVariants as elements
@@ -16,8 +16,8 @@ use Rattle.pg_pairs.specs.declared.choices.choice.Choice.{Choice}
 use Rattle.pg_pairs.specs.declared.choices.choice.Pair.{Pair}
 use Rattle.pg_pairs.specs.views.EnumView.{EnumView}
 use Rattle.pg_pairs.specs.views.ViewLaws.{IsEnumView}
-use Rattle.pg_pairs.specs.choices.Choices.{Table, field_choices, choices, cheapest}
-use Rattle.pg_pairs.specs.bounds.Covering.{IsThere, IsWithin, IsCovered, Covers, children, IsAmong}
+use Rattle.pg_pairs.specs.choices.Choices.{Table, field_choices, cheapest}
+use Rattle.pg_pairs.specs.bounds.Covering.{IsCovered, Covers, IsAmong}
 use Rattle.pg_pairs.specs.laws.CheapestLaws.{IsCheapest}
 use Rattle.pg_pairs.specs.inner.Contents.{ChildBound, IsContent, total}
 use Rattle.pg_dyn.specs.laws.ByComparands.{comparands_at, is_field_kept}
@@ -71,10 +71,7 @@ module _ (enum_view : EnumView) (old new : Shape) (law : IsEnumView enum_view) (
   zeros p = Some (Some 0)
 
   zeros_cover : (p : Pair) (bound : Option ℕ) → zeros p ≡ Some bound → IsCovered enum_view old new zeros p bound
-  zeros_cover p bound there =
-      let is : Some 0 ≡ bound = cc in
-      subst (IsCovered enum_view old new zeros p) is
-      (record { children_there = each_of_all (IsThere zeros) (λ q. refl) (children old new p); bound_below = each_of_all (λ (c : Choice). IsWithin (Some 0) c.cost) (λ c. omega arith) (choices enum_view zeros old new p) })
+  zeros_cover p bound there = search (rules, each_of_all)
 
   no_children : (table : Table) (e d : Element) → IsLeafy e → (cs : List Comparand) → AllByRecursion (ChildBound table (dec new) e d) cs
   no_children table (elements.Message s) d leafy cs = absurd leafy

@@ -1,5 +1,5 @@
 -- A message of an old type that the new one keeps, with all that are no longer: each choice costs more, and no two of its fields meet.
-use Rattle.std.proofs.Common.{◌≡◌, ℕ, ◌<◌, ◌≤◌, length, true, Some, ⊎_elim, arith}
+use Rattle.std.proofs.Common.{◌≡◌, ℕ, ◌<◌, ◌≤◌, length, true, Some, ⊎_elim, arith, rules}
 use Rattle.std.specs.List.{AllByRecursion}
 use Rattle.std.proofs.lemmas.Bool.{cases_Bool}
 use Rattle.pg_schema.specs.declared.parts.field.TypeId.{TypeId}
@@ -23,10 +23,7 @@ use Rattle.pg_pairs.proofs.lemmas.bounds.Dearer.{CompatibleTo, all_dear, field_d
 
 module _ (old new : Shape) (shape_old : IsShape old) (shape_new : IsShape new) (a b : TypeId) (v : Message) (is : IsMessage old a v) (plain : IsPlain v) (small : length (enc old a v) ≤ cap) (fine : CompatibleTo (length (enc old a v)) old new a b) where
   pub is_kept_whole : is_kept numbers old new a b v ≡ true
-  is_kept_whole =
-      ⊎_elim (λ kept. kept)
-      (λ broken. let less = fine v (record { is_message = is; is_plain = plain; has_encoding = small; not_kept = broken }) in absurd (omega arith))
-      (cases_Bool (is_kept numbers old new a b v))
+  is_kept_whole = search (rules, cases_Bool)
 
   abbrev pair : Pair
   pair = record { old = a; new = b }

@@ -1,5 +1,5 @@
 -- What choices cost at least, and what the cheapest does.
-use Rattle.std.proofs.Common.{◌≡◌, ℕ, ◌≤◌, List, [], ◌∷◌, length, true, false, nat_le, cond, if◌then◌else◌, Option, Some, None, option_map, IfSome, refl, sym, subst, arith}
+use Rattle.std.proofs.Common.{◌≡◌, ℕ, ◌≤◌, List, [], ◌∷◌, length, true, false, if◌then◌else◌, Option, Some, None, option_map, IfSome, refl, sym, subst, arith, rules}
 use Rattle.std.specs.List.{AllByRecursion}
 use Rattle.std.proofs.lemmas.Bool.{leb-true}
 use Rattle.pg_schema.specs.declared.parts.field.Element.{Element}
@@ -13,12 +13,11 @@ use Rattle.pg_wire.specs.Records.{tag}
 use Rattle.pg_dyn.specs.word.Coding.{form, form_wire}
 use Rattle.pg_dyn.specs.encoding.Encoding.{cap}
 use Rattle.pg_pairs.specs.declared.choices.case.Case.{Case}
-use Rattle.pg_pairs.specs.declared.choices.case.Case.TheVariants as cases
 use Rattle.pg_pairs.specs.declared.choices.choice.Choice.{Choice}
 use Rattle.pg_pairs.specs.declared.choices.choice.Pair.{Pair}
 use Rattle.pg_pairs.specs.views.EnumView.{EnumView}
 use Rattle.pg_pairs.specs.choices.Costs.{least_body, nonzero_body, entry_cost, one_item, least_content}
-use Rattle.pg_pairs.specs.choices.Choices.{Table, choice_of, zero_counts, unlike_cost, gap_body, child_body, singular_cost, all_choices, affordable, choices, cheapest}
+use Rattle.pg_pairs.specs.choices.Choices.{Table, choice_of, zero_counts, unlike_cost, singular_cost, all_choices, affordable, choices, cheapest}
 use Rattle.pg_pairs.specs.laws.CheapestLaws.{IsCheapest}
 use Rattle.pg_pairs.specs.bounds.Covering.{IsWithin, IsAmong}
 use Rattle.pg_pairs.specs.bounds.LeastCosts.{least_cost, LeastCostsAreExact}
@@ -90,21 +89,8 @@ some-offered number case part (Some n) some = (some, tt)
 -- The choices of a pair under a table.
 module _ (enum_view : EnumView) (table : Table) where
   some-each : (f g : FieldShape) → HoldsOfEach (λ (c : Choice). 1 ≤ c.cost) enum_view table f g
-  some-each f g = record {
-    unlike = unlike_some f g;
-    gap = λ no_map. some-item cases.Gap 0 (gap_body enum_view (zero_counts f g) f.element g.element);
-    child = λ no_map. some-item cases.Child 0 (child_body table f.element g.element);
-    list = λ no_map. some-offered f.number cases.List 0 (singular_cost f g) (singular_some f.number f.presence g.presence f.element g.element f.oneof g.oneof);
-    apart = λ k is_map. least_content_some f;
-    key = λ k l is_map.
-        let keys = gap_body enum_view true (elements.Scalar k) (elements.Scalar l) in
-        some-offered f.number cases.Map 1 (option_map (λ body. entry_cost f.number body (least_body f.element)) keys) (mapped_some (λ body. entry_cost f.number body (least_body f.element)) (λ body. entry_some f.number body (least_body f.element)) keys);
-    value = λ k is_map. some-item cases.Map 2 (gap_body enum_view true f.element g.element);
-    value_child = λ k is_map. some-item cases.Map 2 (child_body table f.element g.element);
-  }
-    where
-      some-item : (case : Case) (part : ℕ) (body : Option ℕ) → AreSome (choice_of f.number case part (option_map (one_item f) body))
-      some-item case part body = some-offered f.number case part (option_map (one_item f) body) (mapped_some (one_item f) (one_item_some f) body)
+  some-each f g =
+      search (rules, unlike_some, some-offered, singular_some, least_content_some, mapped_some, entry_some, one_item_some)
 
   some-all : (gs fs : List FieldShape) → AreSome (all_choices enum_view table gs fs)
   some-all = each_choice (λ (c : Choice). 1 ≤ c.cost) enum_view table some-each (λ a b. let both = least_content_some a in omega arith)
@@ -112,9 +98,7 @@ module _ (enum_view : EnumView) (table : Table) where
 -- of what an encoding may have too each costs at least 1, and none more than that
 some-affordable : (cs : List Choice) → AreSome cs → AllByRecursion (λ (c : Choice). (1 ≤ c.cost) × (c.cost ≤ cap)) (affordable cs)
 some-affordable [] h = tt
-some-affordable (c ∷ cs) h =
-    elim (nat_le c.cost cap) as (λ b. nat_le c.cost cap ≡ b → AllByRecursion (λ (c : Choice). (1 ≤ c.cost) × (c.cost ≤ cap)) (cond b (c ∷ affordable cs) (affordable cs)))
-    [ true ↦ λ e. ((h.0, leb-true c.cost cap e), some-affordable cs h.1) | false ↦ λ e. some-affordable cs h.1 ] refl
+some-affordable (c ∷ cs) h = search (rules, some-affordable cs h.1, leb-true)
 
 -- The cheapest of a list.
 
@@ -139,14 +123,7 @@ least_costs_are_lengths enum_view old new table pair = of (cheapest (choices enu
 
 pub least_costs_are_exact : LeastCostsAreExact
 least_costs_are_exact enum_view old new table pair there =
-    let cs = choices enum_view table old new pair in
-    record {
-      covered = record {
-        children_there = there;
-        bound_below = below (cheapest cs) (cheapest_is_least cs);
-      };
-      chosen = λ x is. chosen_of (cheapest cs) x refl is;
-    }
+    search (rules, below, cheapest_is_least, chosen_of)
   where
     chosen_of : (o : Option Choice) (x : ℕ) → cheapest (choices enum_view table old new pair) ≡ o → cost_of o ≡ Some x → (c : Choice) × IsAmong c (choices enum_view table old new pair) × (c.cost ≡ x)
     chosen_of None x e is = absurd (cc)

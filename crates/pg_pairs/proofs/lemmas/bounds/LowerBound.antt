@@ -1,5 +1,5 @@
 -- A table that covers a pair bounds its breaking messages.
-use Rattle.std.proofs.Common.{option_to_list, ◌≡◌, ℕ, ◌+◌, ◌≤◌, List, [], ◌++◌, length, Bool, true, false, nat_eq, nat_le, Option, Some, None, is_some, ◌⊎◌, inl, inr, ⊎_elim, refl, ap, ap₂, sym, ◌∙◌, subst, arith, eqb-true}
+use Rattle.std.proofs.Common.{option_to_list, ◌≡◌, ℕ, ◌+◌, ◌≤◌, List, [], ◌++◌, length, Bool, true, false, nat_eq, Option, Some, None, is_some, ◌⊎◌, inl, inr, ⊎_elim, refl, ap, ap₂, sym, ◌∙◌, subst, arith, eqb-true, rules}
 use Rattle.std.specs.Bool.{⊤}
 use Rattle.std.specs.List.{AllByRecursion}
 use Rattle.std.proofs.lemmas.Bool.{cases_Bool, leb-false}
@@ -50,11 +50,7 @@ reaches_up bound m n le h small = within_up bound m n le (h (omega arith))
 
 -- the bound of a pair that is there
 there_bound : (table : Table) (pair : Pair) → IsThere table pair → (bound : Option ℕ) × (table pair ≡ Some bound)
-there_bound table pair h = of (table pair) refl
-  where
-    of : (o : Option (Option ℕ)) → table pair ≡ o → (bound : Option ℕ) × (table pair ≡ Some bound)
-    of (Some bound) e = (bound, e)
-    of None e = absurd (let no : is_some (table pair) ≡ false = ap is_some e in cc)
+there_bound table pair h = search (rules, is_some)
 
 module _ (enum_view : EnumView) (law : IsEnumView enum_view) (old new : Shape) (shape_old : IsShape old) (shape_new : IsShape new) (table : Table)
     (covered : (pair : Pair) (bound : Option ℕ) → table pair ≡ Some bound → IsCovered enum_view old new table pair bound) where
@@ -97,10 +93,7 @@ module _ (enum_view : EnumView) (law : IsEnumView enum_view) (old new : Shape) (
         (x, found, subst (λ q. x ≤ length q) (sym (bytes_are old s child) ∙ w) below)
 
     of_the_type : (number : ℕ) (h : FieldShape) (u : TypeId) → number ≡ n → field_at (fields old a) number ≡ Some h → h.element ≡ elements.Message u → u ≡ s
-    of_the_type number h u at found is =
-        let same = one_found (fields old a) n h f (ap (field_at (fields old a)) (sym at) ∙ found) found_old in
-        let equal : elements.Message u ≡ elements.Message s = sym is ∙ ap (λ (x : FieldShape). x.element) same ∙ is_old in
-        cc
+    of_the_type number h u at found is = search (rules, one_found)
 
     each_bounded : (m : ℕ) → m ≤ cap → (v : Message) → IsMessage old a v → IsPlain v → ChildrenShorter old a m v → Claims v → AllByRecursion (λ c. c.number ≡ n → Bounded c) (comparands enum_view.alike old new a b v)
     each_bounded m small (ends unknown) h plain shorter claims = tt
@@ -156,10 +149,7 @@ module _ (enum_view : EnumView) (law : IsEnumView enum_view) (old new : Shape) (
     within_whole = total_within enum_view.alike old new shape_old a b v is plain
 
     allowed : AllByRecursion (λ (c : Choice). Reaches bound c.cost) (all_choices enum_view table gs fs)
-    allowed =
-        each_unfiltered (λ (c : Choice). Reaches bound c.cost) (λ (c : Choice). nat_le c.cost cap)
-        (λ c above below. let over = leb-false c.cost cap above in absurd (omega arith)) (all_choices enum_view table gs fs)
-        (each_weaker (λ (c : Choice). IsWithin bound c.cost) (λ (c : Choice). Reaches bound c.cost) (λ c h below. h) _ (covered (pair_of a b) bound there).bound_below)
+    allowed = search (rules, each_unfiltered, leb-false, each_weaker)
 
     goal_from : (n : ℕ) → n ≤ length (enc old a v) → Reaches bound n → Goal
     goal_from n le h = within_up bound n (length (enc old a v)) le (h (omega arith))
@@ -235,11 +225,7 @@ module _ (enum_view : EnumView) (law : IsEnumView enum_view) (old new : Shape) (
         (λ f g found at. each_at FineAt fs f.number f found fine g at)
 
     one_message : is_kept enum_view.alike old new a b v ≡ false → Goal
-    one_message broken =
-        ⊎_elim
-        (λ fine. ⊎_elim (λ apart. let good = kept fine apart in absurd (cc)) (λ goal. goal) all_apart)
-        (λ goal. goal)
-        all_fine
+    one_message broken = search (rules, kept, all_apart, all_fine)
 
   -- By induction over messages.
 
@@ -260,14 +246,7 @@ each_bounded_by enum_view law old new shape_old shape_new table covered pair bou
 -- what is known of a field's content that breaks and is all that the message has
 pub alone_breaks : (enum_view : EnumView) → IsEnumView enum_view → (old new : Shape) → IsShape old → IsShape new → (table : Table) → ((pair : Pair) (bound : Option ℕ) → table pair ≡ Some bound → IsCovered enum_view old new table pair bound) → (pair : Pair) (bound : Option ℕ) → table pair ≡ Some bound → (f g : FieldShape) → field_at (fields old pair.old) f.number ≡ Some f → field_at (fields new pair.new) f.number ≡ Some g → (v : Message) → AllByRecursion (λ (c : Comparand). c.number ≡ f.number) (comparands enum_view.alike old new pair.old pair.new v) → Breaks enum_view.alike old new pair.old pair.new v → IsContent table (dec new) f g (comparands_at f.number (comparands enum_view.alike old new pair.old pair.new v)) × (is_field_kept enum_view.alike (dec new) f g (comparands_at f.number (comparands enum_view.alike old new pair.old pair.new v)) ≡ false) × (total f (comparands_at f.number (comparands enum_view.alike old new pair.old pair.new v)) ≤ length (enc old pair.old v))
 alone_breaks enum_view law old new shape_old shape_new table covered pair bound there f g found at v one breaks =
-    let claims = all_claims enum_view law old new shape_old shape_new table covered v in
-    let is = breaks.is_message in
-    let plain = breaks.is_plain in
-    let small = breaks.has_encoding in (
-      content_of enum_view law old new shape_old shape_new table covered pair.old pair.new bound there v is plain small claims f g found at,
-      field_broken enum_view.alike old new shape_old shape_new pair.old pair.new v is plain small f g found at one breaks.not_kept,
-      total_within enum_view.alike old new shape_old pair.old pair.new v is plain f found,
-    )
+    search (rules, all_claims, content_of, field_broken, total_within)
 
 pub covering_bounds : CoveringBounds
 covering_bounds enum_view old new table root law shape_old shape_new covers = each_bounded_by enum_view law old new shape_old shape_new table covers.each

@@ -1,5 +1,5 @@
 -- The comparands of a message: its parts as its writer writes them and as the new type must have them.
-use Rattle.std.proofs.Common.{◌≡◌, ℕ, List, [], ◌∷◌, length, map, filter, Bool, true, nat_eq, Option, Some, None, unwrap_or, refl, ap, sym, ◌∙◌, subst, eqb-true}
+use Rattle.std.proofs.Common.{◌≡◌, ℕ, List, [], ◌∷◌, length, map, filter, Bool, true, nat_eq, Option, Some, None, unwrap_or, refl, ap, sym, ◌∙◌, eqb-true, rules}
 use Rattle.std.specs.List.{AllByRecursion}
 use Rattle.pg_schema.specs.declared.parts.field.TypeId.{TypeId}
 use Rattle.std.specs.declared.cmp.Ordering.TheVariants.{Less}
@@ -45,10 +45,7 @@ one_found fs n f g h k = let same : ◌≡◌ {A = Option FieldShape} (Some f) (
 
 module _ (view : View) (old new : Shape) (a b : TypeId) (is_type : IsType (length old) (fields old a)) where
   part_holds : (number : ℕ) (c : Comparand) (later : Message) (part : IsPart (fields old a) number c.key (places later)) → c.number ≡ number → HoldsItem part.field.element c × MayBeZero part.field.presence c.written → HoldsAt (fields old a) c
-  part_holds number c later part same item f found =
-      let is : part.field ≡ f = one_found (fields old a) number part.field f part.found (ap (field_at (fields old a)) (sym same) ∙ found) in
-      subst (λ g. Holds g c) is
-      (record { number_is = same ∙ sym (fields_are_found.1 (fields old a) number part.field part.found); key_fits = part.key_fits; may_be_zero = item.1; item = item.0 })
+  part_holds number c later part same item f found = search (rules, one_found, fields_are_found)
 
   pub each_holds : (v : Message) → IsMessage old a v → AllByRecursion (HoldsAt (fields old a)) (comparands view old new a b v)
   each_holds (ends unknown) h = tt
@@ -95,6 +92,4 @@ ordered_comparands (presences.Map k) cs h order = rising_keys k cs h order
 
 pub field_in_order : (view : View) (old new : Shape) (a b : TypeId) (v : Message) (f : FieldShape) → IsShape old → IsMessage old a v → field_at (fields old a) f.number ≡ Some f → AllByRecursion (Holds f) (comparands_at f.number (comparands view old new a b v)) → IsInOrder f.presence (comparands_at f.number (comparands view old new a b v))
 field_in_order view old new a b v f is_shape h found each =
-    ordered_comparands f.presence (comparands_at f.number (comparands view old new a b v)) (each_weaker (Holds f) (λ c. KeyFits f.presence c.key) (λ c k. k.key_fits) _ each)
-    (subst (Ordered f.presence) (field_written view old new a b v f.number)
-    (own_parts_fit old a v f is_shape h found).1)
+    search (rules, ordered_comparands, each_weaker, field_written, own_parts_fit)

@@ -1,5 +1,5 @@
 -- The law of one field: content that the new field's reader doesn't see costs at least as much as some choice of the field.
-use Rattle.std.proofs.Common.{◌≡◌, ℕ, ◌≤◌, List, [], true, false, ◌⊎◌, ⊎_elim, sym, ◌∙◌, subst, arith}
+use Rattle.std.proofs.Common.{◌≡◌, ℕ, ◌≤◌, List, [], true, false, ◌⊎◌, ⊎_elim, ◌∙◌, subst, arith, rules}
 use Rattle.std.specs.List.{AllByRecursion}
 use Rattle.pg_schema.specs.declared.parts.field.Presence.TheVariants as presences
 use Rattle.pg_schema.specs.Shape.{FieldShape}
@@ -33,11 +33,7 @@ hidden_kept view child f g cs numbers fits_new holds hides =
 
 fate_kept : (view : View) (child : Reader) (f g : FieldShape) (cs : List Comparand) → g.number ≡ f.number → PresenceFits g.presence g.element g.oneof → AllByRecursion (Holds f) cs → (cs ≡ []) ⊎ (Hides f g cs ⊎ Crosses view child f g cs) → is_field_kept view child f g cs ≡ true
 fate_kept view child f g cs numbers fits_new holds fate =
-    ⊎_elim
-    (λ none. subst (λ xs. is_field_kept view child f g xs ≡ true) (sym none) (empty_kept view child f g))
-    (λ some.
-    ⊎_elim (λ hides. hidden_kept view child f g cs numbers fits_new holds hides) (λ crosses. kept_across view child f g cs crosses.seen crosses.across) some)
-    fate
+    search (rules, empty_kept, hidden_kept, kept_across)
 
 -- Content that isn't kept has a length that each choice of its field allows.
 pub one_field : (enum_view : EnumView) → IsEnumView enum_view → (table : Table) (child : Reader) (Q : ℕ → Type 0) → ((m n : ℕ) → m ≤ n → Q m → Q n) → (f g : FieldShape) (cs : List Comparand) → IsContent table child f g cs → is_field_kept enum_view.alike child f g cs ≡ false → AllByRecursion (λ (c : Choice). Q c.cost) (field_choices enum_view table f g) → Q (total f cs)

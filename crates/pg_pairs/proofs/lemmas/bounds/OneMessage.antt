@@ -1,6 +1,6 @@
 -- The contents of an old message's fields: what they hold, that they are no longer than the message, and that of two that meet in one
 -- oneof of the new type both together are no longer.
-use Rattle.std.proofs.Common.{◌≡◌, ℕ, ◌+◌, ◌<◌, ◌≤◌, ◌≢◌, List, [], ◌∷◌, ◌++◌, length, map, filter, flat_map, true, false, not, nat_eq, cond, Some, None, ◌⊎◌, inl, inr, ⊎_elim, refl, ap, sym, ◌∙◌, subst, arith, eqb-true, ne_eqb, append-nil, length-append}
+use Rattle.std.proofs.Common.{◌≡◌, ℕ, ◌+◌, ◌<◌, ◌≤◌, ◌≢◌, List, [], ◌∷◌, ◌++◌, length, map, filter, flat_map, true, false, not, nat_eq, cond, Some, None, ◌⊎◌, inl, inr, ⊎_elim, refl, ap, sym, ◌∙◌, subst, arith, eqb-true, ne_eqb, append-nil, length-append, rules}
 use Rattle.std.specs.List.{AllByRecursion}
 use Rattle.std.proofs.lemmas.Bool.{and_parts, and_from, cases_Bool, cases_lt}
 use Rattle.pg_schema.specs.declared.parts.field.TypeId.{TypeId}
@@ -29,8 +29,7 @@ use Rattle.pg_dyn.proofs.PublicLaws.{fields_are_found, one_is_empty, siblings_mu
 
 module _ (recs : FieldShape → List WireRecord) where
   bytes_joined : (f : FieldShape) (fs : List FieldShape) → length (bytes_of (flat_map recs (f ∷ fs))) ≡ length (bytes_of (recs f)) + length (bytes_of (flat_map recs fs))
-  bytes_joined f fs =
-      ap length (flat_map-append' (λ (r : WireRecord). r.bytes) (recs f) (flat_map recs fs)) ∙ length-append (bytes_of (recs f)) (bytes_of (flat_map recs fs))
+  bytes_joined f fs = search (rules, flat_map-append', flat_map, length-append)
 
   one_within : (fs : List FieldShape) (n : ℕ) (f : FieldShape) → field_at fs n ≡ Some f → length (bytes_of (recs f)) ≤ length (bytes_of (flat_map recs fs))
   one_within [] n f found = absurd (cc)
@@ -64,9 +63,7 @@ module _ (recs : FieldShape → List WireRecord) where
       ] refl found_f
     where
       later : (k : ℕ) → (x.number ≡ k → ⊥) → field_at (x ∷ fs) k ≡ Some g → field_at fs k ≡ Some g
-      later k apart found =
-          elim (nat_eq x.number k) as (λ c. nat_eq x.number k ≡ c → cond c (Some x) (field_at fs k) ≡ Some g → field_at fs k ≡ Some g)
-          [ true ↦ λ e h. absurd (apart (eqb-true x.number k e)) | false ↦ λ e h. h ] refl found
+      later k apart found = search (rules, eqb-true)
 
 nonempty : {A : Type 0} (x : A) (xs ys : List A) → ys ≡ x ∷ xs → ys ≡ [] → ⊥
 nonempty {A} x xs ys h k = let no : ◌≡◌ {A = List A} [] (x ∷ xs) = sym k ∙ h in cc
@@ -128,10 +125,7 @@ module _ (view : View) (old new : Shape) (shape_old : IsShape old) (a b : TypeId
   -- the old field of a comparand
   comparand_field : (n : ℕ) (c : Comparand) (rest : List Comparand) → comparands_at n cs ≡ c ∷ rest → (f : FieldShape) × (field_at fs n ≡ Some f)
   unfolding HasField
-  comparand_field n c rest some =
-      let all = each-filter (HasField fs) (λ d. nat_eq d.number n) cs (each_has_field v is) in
-      let (has, at) = (subst (AllByRecursion (λ d. HasField fs d × (nat_eq d.number n ≡ true))) some all).0 in
-      (has.0, ap (field_at fs) (sym (eqb-true c.number n at)) ∙ has.1)
+  comparand_field n c rest some = search (rules, each-filter, each_has_field, eqb-true)
 
   not_in_old : (f e : FieldShape) → field_at fs f.number ≡ Some f → field_at fs e.number ≡ Some e → f.number ≢ e.number → (c d : Comparand) (xs ys : List Comparand) → comparands_at f.number cs ≡ c ∷ xs → comparands_at e.number cs ≡ d ∷ ys → same_oneof f.oneof e.oneof ≡ false
   not_in_old f e found_f found_e apart c d xs ys some_c some_d =
@@ -168,8 +162,7 @@ module _ (view : View) (old new : Shape) (shape_old : IsShape old) (a b : TypeId
 
   module _ (Goal : Type 0) (found : (f e : FieldShape) → Meets f e → Goal) where
     meet : (g h : FieldShape) → field_at gs g.number ≡ Some g → field_at gs h.number ≡ Some h → is_sibling g h ≡ true → (c d : Comparand) (xs ys : List Comparand) → comparands_at g.number cs ≡ c ∷ xs → comparands_at h.number cs ≡ d ∷ ys → Goal
-    meet g h at_g at_h sibling c d xs ys some_c some_d =
-        of (comparand_field g.number c xs some_c) (comparand_field h.number d ys some_d)
+    meet g h at_g at_h sibling c d xs ys some_c some_d = search (rules, of, comparand_field)
       where
         of : (f : FieldShape) × (field_at fs g.number ≡ Some f) → (e : FieldShape) × (field_at fs h.number ≡ Some e) → Goal
         of (f, found_f) (e, found_e) =

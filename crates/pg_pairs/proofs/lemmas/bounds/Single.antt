@@ -1,5 +1,5 @@
 -- Messages with content in one field: they are kept just where this is.
-use Rattle.std.proofs.Common.{◌≡◌, ◌≢◌, ◌↔◌, ℕ, ◌<◌, ◌≤◌, List, [], ◌∷◌, ◌++◌, length, map, filter, true, false, nat_eq, cond, Some, inl, inr, ⊎_elim, refl, ap, ap₂, sym, ◌∙◌, subst, subst₂, arith, eqb-true, eq-eqb, ne_eqb, true≢false, append-nil}
+use Rattle.std.proofs.Common.{◌≡◌, ◌≢◌, ◌↔◌, ℕ, ◌<◌, ◌≤◌, List, [], ◌∷◌, ◌++◌, length, map, filter, true, false, nat_eq, cond, Some, ⊎_elim, refl, ap, ap₂, sym, ◌∙◌, subst, subst₂, arith, eqb-true, eq-eqb, ne_eqb, true≢false, append-nil, rules}
 use Rattle.std.specs.List.{AllByRecursion}
 use Rattle.std.proofs.lemmas.Bool.{cases_Bool, false_from_ne_true}
 use Rattle.pg_schema.specs.declared.parts.field.TypeId.{TypeId}
@@ -69,16 +69,11 @@ module _ (view : View) (old new : Shape) (shape_old : IsShape old) (shape_new : 
   own = filter_all (λ (c : Comparand). nat_eq c.number f.number) cs (each_weaker (λ (c : Comparand). c.number ≡ f.number) (λ c. nat_eq c.number f.number ≡ true) (λ c k. eq-eqb c.number f.number k) cs one)
 
   none_beside : (n : ℕ) → n ≢ f.number → comparands_at n cs ≡ []
-  none_beside n apart =
-      filter_none (λ (c : Comparand). nat_eq c.number n) cs
-      (each_weaker (λ (c : Comparand). c.number ≡ f.number) (λ c. nat_eq c.number n ≡ false) (λ c k. ne_eqb c.number n (λ same. apart (sym same ∙ k))) cs one)
+  none_beside n apart = search (rules, filter_none, each_weaker, ne_eqb)
 
   none_meet : NoComparandsMeet (fields new b) cs
   none_meet e h at_e at_h sibling =
-      ⊎_elim
-      (λ here. inr (none_beside h.number (λ same. siblings_mutual.2 e h sibling (eqb-true e.number f.number here ∙ sym same))))
-      (λ other. inl (none_beside e.number (λ same. let here = eq-eqb e.number f.number same in absurd (cc))))
-      (cases_Bool (nat_eq e.number f.number))
+      search (rules, none_beside, siblings_mutual, eqb-true, eq-eqb, cases_Bool)
 
   law : (is_kept view old new a b v ≡ true) ↔ EachFieldKept view (dec new) (fields old a) (fields new b) cs
   law = kept_by_comparands view old new a b v shape_old shape_new is plain small none_meet
@@ -97,10 +92,7 @@ module _ (view : View) (old new : Shape) (shape_old : IsShape old) (shape_new : 
       (cases_Bool (nat_eq e.number f.number))
 
   pub single_broken : is_field_kept view (dec new) f g cs ≡ false → is_kept view old new a b v ≡ false
-  single_broken broken =
-      false_from_ne_true (is_kept view old new a b v)
-      (λ kept. true≢false (sym (law.0 kept f g found at) ∙ ap (is_field_kept view (dec new) f g) own ∙ broken))
+  single_broken broken = search (rules, false_from_ne_true, true≢false, law, own)
 
   pub field_broken : is_kept view old new a b v ≡ false → is_field_kept view (dec new) f g (comparands_at f.number cs) ≡ false
-  field_broken broken =
-      false_from_ne_true (is_field_kept view (dec new) f g (comparands_at f.number cs)) (λ kept. true≢false (sym (law.1 (each_kept kept)) ∙ broken))
+  field_broken broken = search (rules, false_from_ne_true, true≢false, law, each_kept)

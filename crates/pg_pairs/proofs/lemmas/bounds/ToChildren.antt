@@ -1,5 +1,5 @@
 -- What a message's type keeps up to its length, a child's type keeps up to the child's.
-use Rattle.std.proofs.Common.{◌≡◌, ℕ, ◌<◌, ◌≤◌, List, [], ◌++◌, length, true, Option, Some, None, option_map, ⊎_elim, refl, ap, ◌∙◌, subst, arith, length-append}
+use Rattle.std.proofs.Common.{◌≡◌, ℕ, ◌<◌, ◌≤◌, List, length, true, Option, Some, None, option_map, refl, ap, ◌∙◌, subst, arith, length-append, rules}
 use Rattle.std.specs.List.{AllByRecursion}
 use Rattle.std.proofs.lemmas.Bool.{cases_lt}
 use Rattle.pg_schema.specs.declared.parts.field.TypeId.{TypeId}
@@ -21,8 +21,8 @@ use Rattle.pg_pairs.specs.declared.choices.choice.Pair.{Pair}
 use Rattle.pg_pairs.specs.views.EnumView.{EnumView, by_numbers}
 use Rattle.pg_pairs.specs.gaps.Likeness.{like}
 use Rattle.pg_pairs.specs.gaps.Gaps.{body_length}
-use Rattle.pg_pairs.specs.choices.Costs.{with_length, one_item, least_body, entry_cost}
-use Rattle.pg_pairs.specs.choices.Choices.{Table, choice_of, gap_body, child_body, singular_cost, plain_choices, map_choices, field_choices, choices_by, map_key}
+use Rattle.pg_pairs.specs.choices.Costs.{with_length, one_item}
+use Rattle.pg_pairs.specs.choices.Choices.{Table, choice_of, child_body, singular_cost, plain_choices, map_choices, field_choices, choices_by, map_key}
 use Rattle.pg_pairs.specs.bounds.Covering.{children_by, has_children}
 use Rattle.pg_pairs.specs.bounds.Laws.{IsReached}
 use Rattle.pg_pairs.proofs.lemmas.choices.Costs.{Costs}
@@ -41,10 +41,7 @@ module _ (P : Choice → Type 0) (enum_view : EnumView) (table : Table) (s t : T
   in_plain p q all = (rw bound at (each_before P (choice_of m cases.Child 0 (option_map (one_item (of_old p)) (child_body table (elements.Message s) (elements.Message t)))) (choice_of m cases.List 0 (singular_cost (of_old p) (of_new q))) all)).0
 
   in_map : (p q : Presence) (k l : Scalar) → like (elements.Scalar k) (elements.Scalar l) ≡ true → AllByRecursion P (map_choices enum_view table (of_old p) (of_new q) k l) → P (record { number = m; case = cases.Map; part = 2; cost = one_item (of_old p) (with_length x) })
-  in_map p q k l alike all =
-      let open_all = rw alike at all in
-      (rw bound at (each_after P (choice_of m cases.Map 1 (option_map (λ body. entry_cost m body (least_body (elements.Message s))) (gap_body enum_view true (elements.Scalar k) (elements.Scalar l))) ++ [])
-      (choice_of m cases.Map 2 (option_map (one_item (of_old p)) (child_body table (elements.Message s) (elements.Message t)))) open_all)).0
+  in_map p q k l alike all = search (rules, each_after)
 
   abbrev Priced : Presence → Type 0
   Priced p = (case : Case) × (part : ℕ) × P (record { number = m; case = case; part = part; cost = one_item (of_old p) (with_length x) })
@@ -66,9 +63,7 @@ module _ (old new : Shape) (shape_old : IsShape old) (shape_new : IsShape new) (
   pub child_compatible : (f g : FieldShape) (s t : TypeId) → field_at (fields old a) f.number ≡ Some f → field_at (fields new b) f.number ≡ Some g → f.element ≡ elements.Message s → g.element ≡ elements.Message t → has_children f.presence g.presence ≡ true
       → (whole : ℕ) → whole ≤ n → (c : Comparand) (bytes : List ℕ) → c.written ≡ Bytes bytes → Costs f whole c → CompatibleTo (length bytes) old new s t
   child_compatible f g s t found at is_old is_new has whole within c bytes w cost u breaks =
-      ⊎_elim (λ less. less)
-      (λ no_more. absurd (too_dear no_more))
-      (cases_lt (length bytes) (length (enc old s u)))
+      search (rules, too_dear, cases_lt)
     where
       too_dear : length (enc old s u) ≤ length bytes → ⊥
       too_dear no_more =

@@ -1,5 +1,5 @@
 -- How a content passes between two fields of one number, either way: what is read of it where each item is.
-use Rattle.std.proofs.Common.{◌≡◌, ℕ, List, [], ◌∷◌, map, true, false, ◌||◌, Option, None, ◌⊎◌, refl}
+use Rattle.std.proofs.Common.{◌≡◌, ℕ, List, [], ◌∷◌, map, true, false, ◌||◌, Option, None, ◌⊎◌, refl, rules}
 use Rattle.std.specs.List.{AllByRecursion}
 use Rattle.pg_schema.specs.declared.parts.field.Scalar.{Scalar}
 use Rattle.pg_schema.specs.declared.parts.field.Element.{Element}
@@ -53,14 +53,11 @@ module _ (view : View) (child : Reader) (number : ℕ) (e d : Element) (o r : Op
   module _ (p : Presence) (unpacked : IsUnpacked (old p)) where
     by_records : (q : Presence) → IsNoMap q → (cs : List Comparand) → AllByRecursion (Seen view child (old p) (new q)) cs → Passes p q e cs → Across child (old p) (new q) cs
     by_records presences.Implicit no_q cs seen passes =
-        across_unpacked view child (old p) (new presences.Implicit) refl (like_wire e d is_like) (not_map child (new presences.Implicit) tt) unpacked cs seen
-        (sits presences.Implicit cs passes.no_key passes.may_be_zero) (taken_one p presences.Implicit cs (passes.one refl) seen passes.may_be_zero)
+        search (rules, across_unpacked, like_wire, not_map, sits, taken_one)
     by_records presences.Explicit no_q cs seen passes =
-        across_unpacked view child (old p) (new presences.Explicit) refl (like_wire e d is_like) (not_map child (new presences.Explicit) tt) unpacked cs seen
-        (sits presences.Explicit cs passes.no_key passes.may_be_zero) (taken_one p presences.Explicit cs (passes.one refl) seen passes.may_be_zero)
+        search (rules, across_unpacked, like_wire, not_map, sits, taken_one)
     by_records (presences.Repeated w) no_q cs seen passes =
-        across_unpacked view child (old p) (new (presences.Repeated w)) refl (like_wire e d is_like) (not_map child (new (presences.Repeated w)) tt) unpacked cs seen
-        (sits (presences.Repeated w) cs passes.no_key passes.may_be_zero) refl
+        search (rules, across_unpacked, like_wire, not_map, sits)
     by_records (presences.Map l) no_q cs seen passes = absurd no_q
 
   pub plain_across : (p q : Presence) → IsNoMap p → IsNoMap q → (cs : List Comparand) → AllByRecursion (Seen view child (old p) (new q)) cs → Passes p q e cs → Across child (old p) (new q) cs
@@ -68,8 +65,7 @@ module _ (view : View) (child : Reader) (number : ℕ) (e d : Element) (o r : Op
   plain_across presences.Explicit q no_p no_q cs seen passes = by_records presences.Explicit (unpacked_explicit number e o) q no_q cs seen passes
   plain_across (presences.Repeated false) q no_p no_q cs seen passes = by_records (presences.Repeated false) (unpacked_repeated number e o) q no_q cs seen passes
   plain_across (presences.Repeated true) q no_p no_q cs seen passes =
-      across_packed view child (old (presences.Repeated true)) (new q) refl (like_wire e d is_like) (not_map child (new q) no_q) (packed_list number e o)
-      (passes.unpacked refl) (passes.packable refl) cs seen (sits q cs passes.no_key passes.may_be_zero)
+      search (rules, across_packed, like_wire, not_map, packed_list, sits)
   plain_across (presences.Map k) q no_p no_q cs seen passes = absurd no_p
 
   pub map_across : (k l : Scalar) → like (elements.Scalar k) (elements.Scalar l) ≡ true → (cs : List Comparand) → AllByRecursion (Seen view child (old (presences.Map k)) (new (presences.Map l))) cs → AllByRecursion (SeenEntry (old (presences.Map k)) k l) cs → RisingKeys k cs → Across child (old (presences.Map k)) (new (presences.Map l)) cs

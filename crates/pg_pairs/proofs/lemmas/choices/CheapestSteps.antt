@@ -1,7 +1,6 @@
 -- The choices of a row of fields and the cheapest one, one field before the others.
-use Rattle.std.proofs.Common.{◌≡◌, ℕ, suc, ◌-◌, ◌<◌, ◌≤◌, List, [], ◌∷◌, ◌++◌, map, length, drop, slice_index_or, nat_eq, Option, None, ap, sym, ◌∙◌, subst, refl, arith}
-use Rattle.std.specs.HashMap.{HashMap, get, IsEmpty}
-use Rattle.std.specs.Map.{lookup}
+use Rattle.std.proofs.Common.{◌≡◌, ℕ, ◌-◌, ◌≤◌, List, [], ◌∷◌, ◌++◌, map, length, drop, slice_index_or, Option, None, ap, sym, ◌∙◌, subst, refl, rules}
+use Rattle.std.specs.HashMap.{HashMap, IsEmpty}
 use Rattle.std.proofs.lemmas.List.{append_assoc}
 use Rattle.pg_schema.specs.declared.parts.field.Field.{Field}
 use Rattle.pg_schema.specs.Parts.{field_shape}
@@ -13,7 +12,7 @@ use Rattle.pg_pairs.specs.views.EnumView.{EnumView}
 use Rattle.pg_pairs.specs.choices.Choices.{Table, choices_beside, joined_choices, all_choices, affordable, cheapest}
 use Rattle.pg_pairs.specs.laws.CheapestLaws.{first_of}
 use Rattle.pg_pairs.specs.inner.NewOneof.{new_oneof}
-use Rattle.pg_pairs.specs.inner.LeastMembers.{member_of, least_member, met_choices, beside, IsOrdered, KeepsLeast}
+use Rattle.pg_pairs.specs.inner.LeastMembers.{member_of, least_member, met_choices, beside, KeepsLeast}
 use Rattle.pg_pairs.proofs.lemmas.choices.Cheaper.{same-below, cheapest-within}
 use Rattle.pg_pairs.proofs.lemmas.choices.LeastMembers.{cheapest-joined}
 use Rattle.pg_pairs.proofs.lemmas.choices.OptionSteps.{affordable-append, drop_at}
@@ -40,18 +39,12 @@ pub none_at_end : (enum_view : EnumView) (table : Table) (gs : List FieldShape) 
 none_at_end enum_view table gs list = sym (ap (λ fs. cheapest (affordable (all_choices enum_view table gs (map field_shape fs)))) (past_end list))
 
 pub kept_at_end : {S : Type 0} (gs : List FieldShape) (list : List Field) (kept : HashMap ℕ Two S) → IsEmpty kept → KeepsLeast gs (map field_shape (drop (length list) list)) kept
-kept_at_end gs list kept empty = subst (λ fs. KeepsLeast gs (map field_shape fs) kept) (sym (past_end list)) (record { least = λ new old. ap (λ o. beside o old) (none new); ordered = λ new. subst IsOrdered (sym (none new)) tt })
-  where
-    none : (new : ℕ) → get nat_eq kept new ≡ None
-    none new = ap (lookup (nat_eq new)) empty
+kept_at_end gs list kept empty = search (rules, past_end)
 
 -- the step of the loop, which goes down to the index before
 module _ (list : List Field) (at : ℕ) (f : Field) (positive : 1 ≤ at) (small : at ≤ length list) (is : f ≡ slice_index_or list (at - 1) f) where
   row : field_shape f ∷ map field_shape (drop at list) ≡ map field_shape (drop (at - 1) list)
-  row =
-      let inside : at - 1 < length list = omega arith in
-      let next : suc (at - 1) ≡ at = omega arith in
-      sym (ap (map field_shape) (drop_at list (at - 1) f f inside is) ∙ ap (λ n. field_shape f ∷ map field_shape (drop n list)) next)
+  row = search (rules, drop_at)
 
   -- of the row that the field's own choices and the one with the field that it meets make, beside what was found after it
   pub found_before : (enum_view : EnumView) (table : Table) (gs : List FieldShape) (oneof : Option ℕ) (cleared beside after row_after : List Choice) (first later found : Option Choice) →

@@ -1,12 +1,11 @@
 -- Where the choices of a field are: those round an item in a field that is no map, those of an entry in a map.
-use Rattle.std.proofs.Common.{◌≡◌, ℕ, true, false, Option, Some, None, refl}
+use Rattle.std.proofs.Common.{◌≡◌, ℕ, true, false, Option, Some, None, refl, rules}
 use Rattle.std.specs.List.{AllByRecursion}
 use Rattle.pg_schema.specs.declared.parts.field.Presence.{Presence}
 use Rattle.pg_schema.specs.declared.parts.field.Presence.TheVariants as presences
 use Rattle.pg_schema.specs.declared.parts.field.Scalar.{Scalar}
 use Rattle.pg_schema.specs.Shape.{FieldShape, is_map}
 use Rattle.pg_pairs.specs.declared.choices.case.Case.{Case}
-use Rattle.pg_pairs.specs.declared.choices.case.Case.TheVariants as cases
 use Rattle.pg_pairs.specs.declared.choices.choice.Choice.{Choice}
 use Rattle.pg_pairs.specs.inner.CarriedItems.{IsPlacedBy}
 use Rattle.pg_pairs.specs.views.EnumView.{EnumView}
@@ -33,14 +32,4 @@ each_offered p number case part None h = tt
 each_offered p number case part (Some cost) h = (h, tt)
 
 pub placed : (enum_view : EnumView) (table : Table) (f g : FieldShape) → AllByRecursion (IsPlaced f.presence) (field_choices enum_view table f g)
-placed enum_view table f g =
-    each_own (IsPlaced f.presence) enum_view table f g (record {
-      unlike = tt;
-      gap = λ no_map. each_offered f.presence f.number cases.Gap 0 _ (unmapped f.presence no_map);
-      child = λ no_map. each_offered f.presence f.number cases.Child 0 _ (unmapped f.presence no_map);
-      list = λ no_map. each_offered f.presence f.number cases.List 0 _ (unmapped f.presence no_map);
-      apart = λ k is_map. mapped f.presence k is_map;
-      key = λ k l is_map. each_offered f.presence f.number cases.Map 1 _ (mapped f.presence k is_map);
-      value = λ k is_map. each_offered f.presence f.number cases.Map 2 _ (mapped f.presence k is_map);
-      value_child = λ k is_map. each_offered f.presence f.number cases.Map 2 _ (mapped f.presence k is_map);
-    })
+placed enum_view table f g = search (rules, each_own, each_offered, unmapped, mapped)

@@ -1,5 +1,5 @@
 -- What holds of all choices, or of all children, holds of those of one field.
-use Rattle.std.proofs.Common.{◌≡◌, ℕ, ◌+◌, ◌<◌, List, [], ◌∷◌, ◌++◌, true, false, not, nat_eq, cond, if◌then◌else◌, Some, refl, ap, ◌∙◌, subst, arith, eqb-true}
+use Rattle.std.proofs.Common.{◌≡◌, ℕ, ◌+◌, ◌<◌, List, [], ◌∷◌, ◌++◌, true, false, not, nat_eq, cond, if◌then◌else◌, Some, refl, ap, ◌∙◌, subst, arith, eqb-true, rules}
 use Rattle.std.specs.List.{AllByRecursion}
 use Rattle.std.proofs.lemmas.Bool.{not-false}
 use Rattle.pg_schema.specs.Shape.{FieldShape, field_at}
@@ -64,9 +64,7 @@ module _ (P : Choice → Type 0) (enum_view : EnumView) (table : Table) (gs : Li
       ] refl found_a
     where
       later_than : (k : ℕ) → (x.number ≡ k → ⊥) → field_at (x ∷ fs) k ≡ Some b → field_at fs k ≡ Some b
-      later_than k apart found =
-          elim (nat_eq x.number k) as (λ c. nat_eq x.number k ≡ c → cond c (Some x) (field_at fs k) ≡ Some b → field_at fs k ≡ Some b)
-          [ true ↦ λ e h. absurd (apart (eqb-true x.number k e)) | false ↦ λ e h. h ] refl found
+      later_than k apart found = search (rules, eqb-true)
 
 -- children, each once in the list
 

@@ -1,5 +1,5 @@
 -- How long a field's records are at least.
-use Rattle.std.proofs.Common.{◌≡◌, ℕ, ◌+◌, ◌*◌, ◌≤◌, List, [], ◌∷◌, ◌++◌, length, map, flat_map, true, false, refl, ap, ◌∙◌, arith, length-append, append_assoc}
+use Rattle.std.proofs.Common.{◌≡◌, ℕ, ◌+◌, ◌*◌, ◌≤◌, List, [], ◌∷◌, ◌++◌, length, map, flat_map, true, false, refl, ap, ◌∙◌, arith, length-append, append_assoc, rules}
 use Rattle.std.specs.List.{AllByRecursion}
 use Rattle.pg_schema.specs.declared.parts.field.Element.{Element}
 use Rattle.pg_schema.specs.declared.parts.field.Element.TheVariants as elements
@@ -7,7 +7,7 @@ use Rattle.pg_schema.specs.Shape.{FieldShape, is_packable}
 use Rattle.pg_wire.specs.declared.record.WireType.{WireType}
 use Rattle.pg_wire.specs.declared.record.WireType.TheVariants.{Varint, I64, Len, I32}
 use Rattle.pg_wire.specs.Varint.{varint}
-use Rattle.pg_wire.specs.Records.{WireRecord, tag, written, length_before}
+use Rattle.pg_wire.specs.Records.{tag, written, length_before}
 use Rattle.pg_dyn.specs.message.Message.{Leaf, Int, F32, F64, Bytes, Part, is_zero}
 use Rattle.pg_dyn.specs.word.Coding.{Form, Integer, Single, Double, Text, Raw, form, form_wire, body, InRange, HasShape}
 use Rattle.pg_dyn.specs.reading.Content.{same_wire}
@@ -27,8 +27,7 @@ use Rattle.pg_wire.proofs.PublicLaws.{lengths_grow}
 
 length-written : (number : ℕ) (wire : WireType) (bytes : List ℕ) → length (written number wire bytes).bytes ≡ length (tag number wire) + length (length_before wire bytes ++ bytes)
 unfolding written
-length-written number wire bytes =
-    ap length (append_assoc (tag number wire) (length_before wire bytes) bytes) ∙ length-append (tag number wire) (length_before wire bytes ++ bytes)
+length-written number wire bytes = search (rules, append_assoc, length-append)
 
 length-len : (bytes : List ℕ) → length (length_before Len bytes ++ bytes) ≡ with_length (length bytes)
 length-len bytes = length-append (varint (length bytes)) bytes
@@ -82,9 +81,7 @@ Costs f n c = (b : ℕ) → b ≤ body_length (form f.element) c.written → one
 
 module _ (f : FieldShape) (unpacked : IsUnpacked f) (cost_is : (b : ℕ) → one_item f b ≡ length (tag f.number (form_wire (form f.element))) + b) where
   unpacked_bytes : (cs : List Comparand) → bytes_of (field_records f (map writes cs)) ≡ flat_map (λ (c : Comparand). (item_record f.number f.element c.written).bytes) cs
-  unpacked_bytes cs =
-      ap bytes_of (unpacked.records_are (map writes cs) ∙ map_map (λ (q : Part Leaf). item_record f.number f.element q.item) writes cs)
-      ∙ flat_map-map (λ (r : WireRecord). r.bytes) (λ (c : Comparand). item_record f.number f.element c.written) cs
+  unpacked_bytes cs = search (rules, map_map, flat_map-map)
 
   pub unpacked_costs : (cs : List Comparand) → AllByRecursion (Costs f (total f cs)) cs
   unpacked_costs cs =
@@ -96,10 +93,7 @@ module _ (f : FieldShape) (unpacked : IsUnpacked f) (cost_is : (b : ℕ) → one
   -- two items cost as much as both
   pub two_cost : (c d : Comparand) (cs : List Comparand) (b : ℕ) → b ≤ body_length (form f.element) c.written → b ≤ body_length (form f.element) d.written → 2 * one_item f b ≤ total f (c ∷ d ∷ cs)
   two_cost c d cs b small_c small_d =
-      rw (unpacked_bytes (c ∷ d ∷ cs))
-      (let first = length-append (item_record f.number f.element c.written).bytes (flat_map (λ (x : Comparand). (item_record f.number f.element x.written).bytes) (d ∷ cs)) in
-      let second = length-append (item_record f.number f.element d.written).bytes (flat_map (λ (x : Comparand). (item_record f.number f.element x.written).bytes) cs) in
-      omega (arith, cost_is b, first, second, length-item_record f.number f.element c.written, length-item_record f.number f.element d.written))
+      search (rules, unpacked_bytes, length-append, flat_map, length-item_record)
 
 module _ (f : FieldShape) (list : IsPackedList f) (packable : is_packable f.element ≡ true) (cost_is : (b : ℕ) → one_item f b ≡ length (tag f.number Len) + with_length b) where
   no_length : (wire : WireType) (bytes : List ℕ) → same_wire Len wire ≡ false → length (length_before wire bytes ++ bytes) ≡ length bytes

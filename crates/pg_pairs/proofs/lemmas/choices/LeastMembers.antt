@@ -1,15 +1,13 @@
 -- The cheapest choice of a field with later ones is the one with the least of them; two of each new oneof are enough to find it.
-use Rattle.std.proofs.Common.{◌≡◌, ℕ, ◌+◌, List, [], ◌∷◌, ◌++◌, Bool, true, false, not, ◌&&◌, cond, if◌then◌else◌, nat_eq, nat_le, Option, Some, None, refl, ap, sym, ◌∙◌, subst, arith, option_and_then, eqb-true, eq-eqb}
+use Rattle.std.proofs.Common.{◌≡◌, ℕ, ◌+◌, List, [], ◌∷◌, Bool, true, false, not, ◌&&◌, cond, if◌then◌else◌, nat_eq, nat_le, Option, Some, None, refl, ap, sym, ◌∙◌, option_and_then, eqb-true, eq-eqb, rules}
 use Rattle.std.specs.HashMap.{HashMap, get, Updates}
 use Rattle.std.proofs.Math.Bool.{and_comm}
 use Rattle.std.proofs.lemmas.Bool.{leb-true, leb-false, le-leb, lt-leb}
 use Rattle.pg_schema.specs.Shape.{FieldShape, field_at}
 use Rattle.pg_dyn.specs.reading.Content.{same_oneof}
-use Rattle.pg_pairs.specs.declared.choices.case.Case.TheVariants as cases
 use Rattle.pg_pairs.specs.declared.choices.least_member.Member.{Member}
 use Rattle.pg_pairs.specs.declared.choices.least_member.Two.{Two}
-use Rattle.pg_pairs.specs.choices.Costs.{least_content}
-use Rattle.pg_pairs.specs.choices.Choices.{choice, in_one_oneof, joins, joined_choices, cheaper, cheapest}
+use Rattle.pg_pairs.specs.choices.Choices.{in_one_oneof, joins, joined_choices, cheaper, cheapest}
 use Rattle.pg_pairs.specs.inner.NewOneof.{new_oneof}
 use Rattle.pg_pairs.specs.inner.LeastMembers.{member_of, lesser, least_member, joined_with, met_choices, beside, IsOrdered, KeepsLeast}
 
@@ -21,23 +19,10 @@ turned j k false h = elim (nat_eq k j) as (λ b. nat_eq k j ≡ b → b ≡ fals
 -- the choice with the least
 
 in_oneof_is : (gs : List FieldShape) (a b : FieldShape) → in_one_oneof (field_at gs a.number) (field_at gs b.number) ≡ same_oneof (new_oneof gs a) (new_oneof gs b)
-in_oneof_is gs a b = of (field_at gs a.number) (field_at gs b.number)
-  where
-    no_second : (o : Option ℕ) → false ≡ same_oneof o None
-    no_second (Some k) = refl
-    no_second None = refl
-
-    of : (x y : Option FieldShape) → in_one_oneof x y ≡ same_oneof (option_and_then (λ g. g.oneof) x) (option_and_then (λ g. g.oneof) y)
-    of (Some g) (Some h) = refl
-    of (Some g) None = no_second g.oneof
-    of None y = refl
+in_oneof_is gs a b = search (rules, option_and_then)
 
 le-shift : (k m n : ℕ) → nat_le (k + m) (k + n) ≡ nat_le m n
-le-shift k m n =
-    elim (nat_le m n) as (λ b. nat_le m n ≡ b → nat_le (k + m) (k + n) ≡ b) [
-      | true ↦ λ e. let below = leb-true m n e in le-leb (k + m) (k + n) (omega arith)
-      | false ↦ λ e. let above = leb-false m n e in lt-leb (k + m) (k + n) (omega arith)
-    ] refl
+le-shift k m n = search (rules, leb-true, le-leb, leb-false, lt-leb)
 
 lesser-joined : (a m : Member) (o : Option Member) → Some (cheaper (joined_with a m) (cheapest (met_choices a o))) ≡ cheapest (met_choices a (Some (lesser m o)))
 lesser-joined a m None = refl
@@ -48,13 +33,8 @@ joins_is gs a b = ap (λ one. not (same_oneof a.oneof b.oneof) && one) (in_oneof
 
 pub cheapest-joined : (gs : List FieldShape) (a : FieldShape) (later : List FieldShape) → cheapest (joined_choices gs a later) ≡ cheapest (met_choices (member_of a) (least_member gs (new_oneof gs a) a.oneof later))
 cheapest-joined gs a [] = refl
-cheapest-joined gs a (b ∷ later) = rw (joins_is gs a b) (of (same_oneof (new_oneof gs a) (new_oneof gs b) && not (same_oneof a.oneof b.oneof)) (cheapest-joined gs a later))
-  where
-    of : (t : Bool) → cheapest (joined_choices gs a later) ≡ cheapest (met_choices (member_of a) (least_member gs (new_oneof gs a) a.oneof later)) →
-        cheapest ((if t then choice a.number cases.Oneof b.number (least_content a + least_content b) ∷ [] else []) ++ joined_choices gs a later)
-        ≡ cheapest (met_choices (member_of a) (if t then Some (lesser (member_of b) (least_member gs (new_oneof gs a) a.oneof later)) else least_member gs (new_oneof gs a) a.oneof later))
-    of true rest = ap (λ o. Some (cheaper (joined_with (member_of a) (member_of b)) o)) rest ∙ lesser-joined (member_of a) (member_of b) (least_member gs (new_oneof gs a) a.oneof later)
-    of false rest = rest
+cheapest-joined gs a (b ∷ later) =
+    search (rules, cheapest-joined gs a later, joins_is, lesser-joined)
 
 -- a field in no new oneof meets none
 
@@ -71,31 +51,10 @@ module _ {S : Type 0} (gs : List FieldShape) (f : FieldShape) (fs : List FieldSh
   pub one_more : (new : ℕ) (two : Two) (after : HashMap ℕ Two S) → new_oneof gs f ≡ Some new → Updates nat_eq kept after new (Some two) →
       ((old : Option ℕ) → beside (Some two) old ≡ (if not (same_oneof old f.oneof) then Some (lesser (member_of f) (beside (get nat_eq kept new) old)) else beside (get nat_eq kept new) old)) →
       IsOrdered (Some two) → KeepsLeast gs (f ∷ fs) after
-  one_more new two after found updates met ordered = record { least = least; ordered = λ k. of k (nat_eq new k) refl }
-    where
-      of : (k : ℕ) (b : Bool) → nat_eq new k ≡ b → IsOrdered (get nat_eq after k)
-      of k true h = subst IsOrdered (sym (updates.0 k ∙ ap (λ b. cond b (Some two) (get nat_eq kept k)) h)) ordered
-      of k false h = subst IsOrdered (sym (updates.0 k ∙ ap (λ b. cond b (Some two) (get nat_eq kept k)) h)) (is.ordered k)
-
-      here : (k : ℕ) (old : Option ℕ) (b : Bool) → nat_eq new k ≡ b → beside (get nat_eq after k) old ≡ (if b && not (same_oneof old f.oneof) then Some (lesser (member_of f) (least_member gs (Some k) old fs)) else least_member gs (Some k) old fs)
-      here k old true h =
-          let own : beside (get nat_eq kept new) old ≡ least_member gs (Some k) old fs = ap (λ n. beside (get nat_eq kept n) old) (eqb-true new k h) ∙ is.least k old in
-          ap (λ o. beside o old) (updates.0 k ∙ ap (λ b. cond b (Some two) (get nat_eq kept k)) h) ∙ met old
-          ∙ ap (λ o. if not (same_oneof old f.oneof) then Some (lesser (member_of f) o) else o) own
-      here k old false h = ap (λ o. beside o old) (updates.0 k ∙ ap (λ b. cond b (Some two) (get nat_eq kept k)) h) ∙ is.least k old
-
-      least : (k : ℕ) (old : Option ℕ) → beside (get nat_eq after k) old ≡ least_member gs (Some k) old (f ∷ fs)
-      least k old =
-          let test : same_oneof (Some k) (new_oneof gs f) ≡ nat_eq new k = ap (same_oneof (Some k)) found ∙ turned new k (nat_eq new k) refl in
-          rw test (here k old (nat_eq new k) refl)
+  one_more new two after found updates met ordered = search (rules, eqb-true, turned)
 
   -- the same with what was there before, as the call that makes the two says it
   pub put : (new : ℕ) (m : Member) (later : Option Two) (two : Two) (after : HashMap ℕ Two S) → new_oneof gs f ≡ Some new → m ≡ member_of f → later ≡ get nat_eq kept new → Updates nat_eq kept after new (Some two) →
       (IsOrdered later → (old : Option ℕ) → beside (Some two) old ≡ (if not (same_oneof old m.oneof) then Some (lesser m (beside later old)) else beside later old)) →
       (IsOrdered later → IsOrdered (Some two)) → KeepsLeast gs (f ∷ fs) after
-  put new m later two after found m_is later_is updates met ordered =
-      let now_ordered : IsOrdered later = subst IsOrdered (sym later_is) (is.ordered new) in
-      one_more new two after found updates
-      (λ old. met now_ordered old ∙ ap (λ (n : Member). if not (same_oneof old n.oneof) then Some (lesser n (beside later old)) else beside later old) m_is
-      ∙ ap (λ o. if not (same_oneof old f.oneof) then Some (lesser (member_of f) (beside o old)) else beside o old) later_is)
-      (ordered now_ordered)
+  put new m later two after found m_is later_is updates met ordered = search (rules, one_more)

@@ -1,19 +1,18 @@
 -- How far costs go: a cause's, and what an edge's is more than its child's bound.
-use Rattle.std.proofs.Common.{◌≡◌, ℕ, zero, suc, ◌+◌, ◌/◌, ◌%◌, ◌≤◌, ℤ, pos, negsuc, List, [], ◌∷◌, length, Bool, true, false, nat_le, nat_lt, if◌then◌else◌, Option, Some, None, option_map, IfSome, refl, arith, length-append}
+use Rattle.std.proofs.Common.{◌≡◌, ℕ, zero, suc, ◌+◌, ◌/◌, ◌≤◌, ℤ, pos, negsuc, List, [], ◌∷◌, length, Bool, true, false, nat_lt, Option, Some, None, option_map, IfSome, refl, arith, length-append, rules}
 use Rattle.std.specs.List.{AllByRecursion}
 use Rattle.pg_schema.specs.declared.parts.field.Scalar.TheVariants.{Int32}
 use Rattle.pg_schema.specs.declared.parts.field.Element.{Element}
 use Rattle.pg_schema.specs.declared.parts.field.Element.TheVariants as elements
 use Rattle.pg_schema.specs.declared.parts.field.Presence.{Presence}
 use Rattle.pg_schema.specs.declared.parts.field.Presence.TheVariants as presences
-use Rattle.pg_schema.specs.Shape.{Shape, FieldShape, fields}
+use Rattle.pg_schema.specs.Shape.{Shape, FieldShape}
 use Rattle.pg_wire.specs.declared.record.WireType.{WireType}
 use Rattle.pg_wire.specs.declared.record.WireType.TheVariants.{Varint, I64, Len, I32}
 use Rattle.pg_wire.specs.Varint.{shortest_within, varint}
 use Rattle.pg_wire.specs.Records.{length_before, tag}
 use Rattle.pg_dyn.specs.message.Message.{Leaf, Int, Bytes}
 use Rattle.pg_dyn.specs.word.Coding.{Form, Integer, Single, Double, Text, Raw, body, form, form_wire, int32, scalar_form, word_bytes}
-use Rattle.pg_dyn.specs.encoding.Encoding.{cap}
 use Rattle.pg_dyn.proofs.Lists.{each_filtered}
 use Rattle.pg_pairs.specs.declared.choices.case.Case.{Case}
 use Rattle.pg_pairs.specs.declared.choices.case.Case.TheVariants as cases
@@ -34,9 +33,7 @@ use Rattle.pg_pairs.proofs.lemmas.choices.Offers.{HoldsOfEach, each_choice}
 
 within_short : (m n : ℕ) → length (shortest_within m n) ≤ suc m
 within_short zero n = omega arith
-within_short (suc m) n =
-    let rest = within_short m (n / 128) in
-    elim (nat_lt n 128) as (λ b. length (if b then n ∷ [] else (128 + n % 128) ∷ shortest_within m (n / 128)) ≤ suc (suc m)) [ true ↦ omega arith | false ↦ omega arith ]
+within_short (suc m) n = search (rules, within_short m (n / 128), nat_lt)
 
 varint_short : (n : ℕ) → length (varint n) ≤ 10
 unfolding varint
@@ -93,10 +90,7 @@ content_low : (f : FieldShape) → least_content f ≤ 38
 content_low f = content_by f.number f.presence f.element f.oneof
 
 unlike_low : (f g : FieldShape) → unlike_cost f g ≤ 38
-unlike_low f g =
-    let low = nonzero_low f.element in
-    let near = item_near f (nonzero_body f.element) in
-    elim (zero_counts f g) as (λ b. (if b then least_content f else one_item f (nonzero_body f.element)) ≤ 38) [ true ↦ content_low f | false ↦ omega arith ]
+unlike_low f g = search (rules, nonzero_low, item_near, content_low)
 
 -- none, or a number that is no more
 abbrev IsUpTo : ℕ → Option ℕ → Type 0
@@ -132,10 +126,7 @@ before_short I32 bytes = omega arith
 before_short Len bytes = varint_short (length bytes)
 
 short_body : (f : Form) (item : Leaf) → length (body f item) ≤ 10 → body_length f item ≤ 20
-short_body f item short =
-    let sum = length-append (length_before (form_wire f) (body f item)) (body f item) in
-    let before = before_short (form_wire f) (body f item) in
-    omega arith
+short_body f item short = search (rules, length-append, before_short)
 
 named_low : (f : Form) (value : ℤ) → body_length f (item_named f value) ≤ 20
 named_low (Integer whole) value = short_body (Integer whole) (Int value) (word_short whole.wire (whole.word value))
@@ -207,6 +198,4 @@ module _ (enum_view : EnumView) where
   low-all = each_choice (λ (c : Choice). c.cost ≤ 100) enum_view no_bounds low-each (λ a b. let one = content_low a in let other = content_low b in omega arith)
 
   pub causes_are_low : (old new : Shape) (pair : Pair) (c : Choice) → IsAmong c (causes enum_view old new pair) → c.cost ≤ 100
-  causes_are_low old new pair c among =
-      among_each (λ (x : Choice). x.cost ≤ 100) c (causes enum_view old new pair) among
-      (each_filtered (λ (x : Choice). x.cost ≤ 100) (λ (x : Choice). nat_le x.cost cap) (all_choices enum_view no_bounds (fields new pair.new) (fields old pair.old)) (low-all (fields new pair.new) (fields old pair.old)))
+  causes_are_low old new pair c among = search (rules, among_each, each_filtered, low-all)

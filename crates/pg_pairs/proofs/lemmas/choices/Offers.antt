@@ -1,16 +1,16 @@
 -- What holds of each choice that two fields of one number may have, and of two fields that meet, holds of all choices.
-use Rattle.std.proofs.Common.{◌≡◌, ◌+◌, List, [], ◌∷◌, ◌++◌, true, false, ◌&&◌, if◌then◌else◌, Option, Some, None, option_map, refl}
+use Rattle.std.proofs.Common.{◌≡◌, ◌+◌, List, [], ◌∷◌, ◌++◌, true, false, ◌&&◌, if◌then◌else◌, Option, Some, None, option_map, refl, rules}
 use Rattle.std.specs.List.{AllByRecursion}
 use Rattle.pg_schema.specs.declared.parts.field.Scalar.{Scalar}
 use Rattle.pg_schema.specs.declared.parts.field.Element.TheVariants as elements
-use Rattle.pg_schema.specs.Shape.{FieldShape, field_at}
+use Rattle.pg_schema.specs.Shape.{FieldShape}
 use Rattle.pg_dyn.proofs.Lists.{each-append}
 use Rattle.pg_pairs.specs.declared.choices.case.Case.TheVariants as cases
 use Rattle.pg_pairs.specs.declared.choices.choice.Choice.{Choice}
 use Rattle.pg_pairs.specs.views.EnumView.{EnumView}
 use Rattle.pg_pairs.specs.gaps.Likeness.{like}
 use Rattle.pg_pairs.specs.choices.Costs.{least_body, entry_cost, one_item, least_content}
-use Rattle.pg_pairs.specs.choices.Choices.{Table, all_choices, child_body, choice, choice_of, choices_beside, choices_by, field_choices, gap_body, joined_choices, joins, map_key, singular_cost, unlike_cost, zero_counts}
+use Rattle.pg_pairs.specs.choices.Choices.{Table, all_choices, child_body, choice, choice_of, choices_beside, choices_by, field_choices, gap_body, joined_choices, map_key, singular_cost, unlike_cost, zero_counts}
 
 -- The parts of a field's choices.
 
@@ -63,13 +63,7 @@ module _ (P : Choice → Type 0) (enum_view : EnumView) (table : Table) where
                 (each-append P (key_choice enum_view f k l) (value_choice enum_view f g) (holds.key k l is) (holds.value k is)) (holds.value_child k is)
             | false ↦ (holds.apart k is, tt)
           ]
-      of None None is =
-          elim (like f.element g.element) as (λ b. AllByRecursion P (if b then like_choices enum_view table f g else choice f.number cases.Unlike 0 (unlike_cost f g) ∷ [])) [
-            | true ↦
-                each-append P (gap_choice enum_view f g ++ child_choice table f g) (list_choice f g)
-                (each-append P (gap_choice enum_view f g) (child_choice table f g) (holds.gap is) (holds.child is)) (holds.list is)
-            | false ↦ (holds.unlike, tt)
-          ]
+      of None None is = search (rules, each-append)
       of (Some k) None is = (holds.unlike, tt)
       of None (Some l) is = (holds.unlike, tt)
 
@@ -80,14 +74,9 @@ module _ (P : Choice → Type 0) (enum_view : EnumView) (table : Table) where
 
     each_joined : (gs : List FieldShape) (a : FieldShape) (later : List FieldShape) → AllByRecursion P (joined_choices gs a later)
     each_joined gs a [] = tt
-    each_joined gs a (b ∷ later) =
-        each-append P (if joins gs a b then choice a.number cases.Oneof b.number (least_content a + least_content b) ∷ [] else []) (joined_choices gs a later)
-        (elim (joins gs a b) as (λ c. AllByRecursion P (if c then choice a.number cases.Oneof b.number (least_content a + least_content b) ∷ [] else [])) [ true ↦ (two a b, tt) | false ↦ tt ])
-        (each_joined gs a later)
+    each_joined gs a (b ∷ later) = search (rules, each_joined gs a later, each-append)
 
     pub each_choice : (gs fs : List FieldShape) → AllByRecursion P (all_choices enum_view table gs fs)
     each_choice gs [] = tt
     each_choice gs (f ∷ later) =
-        each-append P (choices_beside enum_view table f (field_at gs f.number) ++ joined_choices gs f later) (all_choices enum_view table gs later)
-        (each-append P (choices_beside enum_view table f (field_at gs f.number)) (joined_choices gs f later) (each_beside f (field_at gs f.number)) (each_joined gs f later))
-        (each_choice gs later)
+        search (rules, each_choice gs later, each-append, each_beside, each_joined)

@@ -1,14 +1,13 @@
 -- The choices of a pair's fields: numbers that fit, and a pair that isn't there.
-use Rattle.std.proofs.Common.{◌≡◌, ℕ, zero, suc, ◌+◌, ◌<◌, ◌^◌, List, [], ◌∷◌, ◌++◌, map, length, drop, get_or, slice_index_or, nat_le, None, ap, sym, ◌∙◌, subst, drop-cons, append_assoc, add-one, arith}
+use Rattle.std.proofs.Common.{◌≡◌, ℕ, zero, suc, ◌+◌, ◌<◌, ◌^◌, List, [], ◌∷◌, ◌++◌, map, length, drop, get_or, slice_index_or, nat_le, None, ap, sym, ◌∙◌, drop-cons, append_assoc, add-one, arith, rules}
 use Rattle.std.specs.List.{AllByRecursion}
 use Rattle.pg_schema.specs.declared.parts.field.Field.{Field}
 use Rattle.pg_schema.specs.declared.parts.field.TypeId.{TypeId}
-use Rattle.pg_schema.specs.declared.parts.message_type.MessageType.{MessageType}
 use Rattle.pg_schema.specs.declared.parts.Parts.{Parts}
 use Rattle.pg_schema.specs.Parts.{field_shape, shape_of}
 use Rattle.pg_schema.specs.Lookups.{type_at}
 use Rattle.pg_schema.specs.Shape.{Shape, FieldShape, field_at, fields}
-use Rattle.pg_schema.specs.ShapeRules.{IsShape, IsField}
+use Rattle.pg_schema.specs.ShapeRules.{IsShape}
 use Rattle.pg_dyn.specs.encoding.Encoding.{cap}
 use Rattle.pg_dyn.proofs.Lists.{each_weaker, filter-append'}
 use Rattle.pg_pairs.specs.declared.choices.choice.Choice.{Choice}
@@ -46,14 +45,11 @@ choices_after enum_view table gs list at f inside is now beside after total so_f
 
 -- every field of a schema has a number that a tag can hold
 pub numbers_fit : (parts : Parts) (id : TypeId) (list : List Field) → IsShape (shape_of parts) → map field_shape list ≡ fields (shape_of parts) id → AllByRecursion (λ (f : Field). f.number < 2 ^ 29) list
-numbers_fit parts id list shape is =
-    unmap list (subst (AllByRecursion (λ (f : FieldShape). f.number < 2 ^ 29)) (sym is)
-    (each_weaker (IsField (length (shape_of parts))) (λ (f : FieldShape). f.number < 2 ^ 29) (λ f field. field.number_below) (fields (shape_of parts) id) (fields_are_found.0 (shape_of parts) id shape).each))
+numbers_fit parts id list shape is = search (rules, unmap, each_weaker, fields_are_found)
   where
     unmap : (xs : List Field) → AllByRecursion (λ (f : FieldShape). f.number < 2 ^ 29) (map field_shape xs) → AllByRecursion (λ (f : Field). f.number < 2 ^ 29) xs
     unmap [] h = tt
     unmap (x ∷ xs) h = (h.0, unmap xs h.1)
 
 pub no_choices : (enum_view : EnumView) (table : Table) (old : Parts) (new : Shape) (pair : Pair) → type_at old pair.old ≡ None → choices enum_view table (shape_of old) new pair ≡ []
-no_choices enum_view table old new pair h =
-    ap (λ fs. affordable (all_choices enum_view table (fields new pair.new) fs)) (past (λ (t : MessageType). map field_shape t.fields.items) [] old.types.items pair.old.index h)
+no_choices enum_view table old new pair h = search (rules, past)

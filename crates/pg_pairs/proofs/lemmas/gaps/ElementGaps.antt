@@ -1,5 +1,5 @@
 -- The gap between elements that are no messages, and which items aren't seen.
-use Rattle.std.proofs.Common.{◌≡◌, pos, Bool, true, false, Some, refl, ap, sym, subst, ◌∙◌}
+use Rattle.std.proofs.Common.{◌≡◌, pos, true, refl, rules}
 use Rattle.pg_schema.specs.declared.parts.field.Element.{Element}
 use Rattle.pg_schema.specs.declared.parts.field.Element.TheVariants as elements
 use Rattle.pg_dyn.specs.message.Message.{Leaf, Int, is_zero}
@@ -53,14 +53,8 @@ module _ (view : View) (old new : Element) (alike : FindsZeroAlike view old new)
   -- like elements have one zero item and write it alike
   zero_seen : (item : Leaf) → InRange (form old) item → is_zero item ≡ true → is_seen view old new item ≡ true
   zero_seen item range zero =
-      let wires = like_wire old new is_like in
-      let same : item ≡ zero_leaf (form new) = zero_by_form (form old) item range zero ∙ like_zeros (form old) (form new) (forms_like old new no_message is_like) in
-      seen_from view old new item (zero_across old new item wires range zero ∙ ap Some (sym same))
-      (subst (λ i. alike_leaves view old new i i ≡ true) (sym same) (alike_zero view old new alike))
+      search (rules, like_wire, zero_by_form, like_zeros, forms_like, seen_from, zero_across, alike_zero)
 
 pub unseen_are_not_zero : UnseenAreNotZero
-unseen_are_not_zero view old new alike no_message is_like item range unseen = of (is_zero item) refl
-  where
-    of : (b : Bool) → is_zero item ≡ b → is_zero item ≡ false
-    of false e = e
-    of true e = let seen = zero_seen view old new alike no_message is_like item range e in absurd (cc)
+unseen_are_not_zero view old new alike no_message is_like item range unseen =
+    search (rules, zero_seen)

@@ -1,5 +1,5 @@
 -- The item of the gap between two like elements is a least one that isn't seen.
-use Rattle.std.proofs.Common.{◌≡◌, ℕ, ℤ, ◌^◌, ◌≤◌, Bool, true, false, Option, Some, None, refl, ap, sym, ◌∙◌, subst}
+use Rattle.std.proofs.Common.{◌≡◌, ℕ, ℤ, ◌^◌, ◌≤◌, Bool, true, false, Option, Some, None, refl, ap, sym, ◌∙◌, subst, rules}
 use Rattle.std.proofs.lemmas.Bool.Decides.{Decides-int_eq}
 use Rattle.pg_schema.specs.declared.parts.field.EnumId.{EnumId}
 use Rattle.pg_schema.specs.declared.parts.field.Scalar.{Scalar}
@@ -10,7 +10,7 @@ use Rattle.pg_schema.specs.declared.parts.field.Presence.TheVariants as presence
 use Rattle.pg_schema.specs.ShapeRules.{PresenceFits}
 use Rattle.pg_wire.specs.Words.{IsBetween}
 use Rattle.pg_dyn.specs.message.Message.{Leaf, Int, F32, F64, Bytes}
-use Rattle.pg_dyn.specs.word.Coding.{Integer, int32, form, scalar_form, body, leaf_in, word_bytes, InRange}
+use Rattle.pg_dyn.specs.word.Coding.{form, scalar_form, word_bytes, InRange}
 use Rattle.pg_dyn.specs.views.Comparison.{View, numbers}
 use Rattle.pg_pairs.specs.declared.gaps.gap_kind.Gap.{Gap}
 use Rattle.pg_pairs.specs.declared.gaps.gap_kind.Gap.TheVariants as gaps
@@ -106,11 +106,7 @@ module _ (enum_view : EnumView) (zero : Bool) (s t : EnumId) where
   enum_differs n u = record { in_range = u.in_range; counts = item_counts zero n u.counts; not_alike = sym (enum_seen n u.in_range) ∙ u.not_seen }
 
   none_item : ((n : ℤ) → Differs (enum_view.alike s t) zero n → ⊥) → IsGapItem enum_view.alike zero (elements.Enum s) (elements.Enum t) None
-  none_item none (Int n) range counts = of (is_seen enum_view.alike (elements.Enum s) (elements.Enum t) (Int n)) refl
-    where
-      of : (b : Bool) → is_seen enum_view.alike (elements.Enum s) (elements.Enum t) (Int n) ≡ b → is_seen enum_view.alike (elements.Enum s) (elements.Enum t) (Int n) ≡ true
-      of true e = e
-      of false e = absurd (none n (enum_differs n (record { in_range = range; counts = counts; not_seen = e })))
+  none_item none (Int n) range counts = search (rules, enum_differs)
   none_item none (F32 bits) range counts = absurd range
   none_item none (F64 bits) range counts = absurd range
   none_item none (Bytes bytes) range counts = absurd range
@@ -133,13 +129,10 @@ pub gap_item_is : (enum_view : EnumView) → IsEnumView enum_view → (zero : Bo
 gap_item_is enum_view law zero (elements.Message s) new leafy is_like = absurd leafy
 gap_item_is enum_view law zero (elements.Scalar s) (elements.Message t) leafy is_like = absurd (cc)
 gap_item_is enum_view law zero (elements.Scalar s) (elements.Scalar t) leafy is_like =
-    gap_as enum_view.alike zero (elements.Scalar s) (elements.Scalar t) s t
-    (record { old_form = refl; seen_same = λ item. read_scalar_scalar enum_view.alike s t item (leaf_in (scalar_form t) (body (scalar_form s) item)) }) is_like
+    search (rules, gap_as, read_scalar_scalar)
 gap_item_is enum_view law zero (elements.Scalar s) (elements.Enum t) leafy is_like =
-    gap_as enum_view.alike zero (elements.Scalar s) (elements.Enum t) s scalars.Int32
-    (record { old_form = refl; seen_same = λ item. read_scalar_enum enum_view.alike s t item (leaf_in (Integer int32) (body (scalar_form s) item)) }) is_like
+    search (rules, gap_as, read_scalar_enum)
 gap_item_is enum_view law zero (elements.Enum s) (elements.Message t) leafy is_like = absurd (cc)
 gap_item_is enum_view law zero (elements.Enum s) (elements.Scalar t) leafy is_like =
-    gap_as enum_view.alike zero (elements.Enum s) (elements.Scalar t) scalars.Int32 t
-    (record { old_form = refl; seen_same = λ item. read_enum_scalar enum_view.alike s t item (leaf_in (scalar_form t) (body (Integer int32) item)) }) is_like
+    search (rules, gap_as, read_enum_scalar)
 gap_item_is enum_view law zero (elements.Enum s) (elements.Enum t) leafy is_like = enum_gap enum_view zero s t (law s t zero)

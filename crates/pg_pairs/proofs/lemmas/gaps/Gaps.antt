@@ -1,5 +1,5 @@
 -- The table of gaps is true.
-use Rattle.std.proofs.Common.{◌≡◌, ℕ, pos, negsuc, suc, ◌+◌, ◌-◌, ◌*◌, ◌^◌, ◌<◌, ◌≤◌, Bool, true, false, [], ◌∷◌, length, Some, None, refl, ap, ◌∙◌, arith, length-append}
+use Rattle.std.proofs.Common.{◌≡◌, ℕ, pos, negsuc, suc, ◌+◌, ◌-◌, ◌*◌, ◌^◌, ◌<◌, ◌≤◌, Bool, true, false, [], ◌∷◌, length, Some, None, refl, ap, ◌∙◌, arith, length-append, rules}
 use Rattle.std.specs.Str.{is_utf8, chars}
 use Rattle.pg_schema.specs.declared.parts.field.Scalar.{Scalar}
 use Rattle.pg_schema.specs.declared.parts.field.Scalar.TheVariants as scalars
@@ -43,11 +43,7 @@ out_of_range : (s t : Scalar) (item : Leaf) → is_seen numbers (elements.Scalar
 out_of_range s t item unseen same h = let seen = seen_in_both s t item h same in cc
 
 a_gap : (s t : Scalar) (item : Leaf) → InRange (scalar_form s) item → is_seen numbers (elements.Scalar s) (elements.Scalar t) item ≡ false → ((other : Leaf) → InRange (scalar_form s) other → is_seen numbers (elements.Scalar s) (elements.Scalar t) other ≡ false → body_length (scalar_form s) item ≤ body_length (scalar_form s) other) → IsGapItem numbers true (elements.Scalar s) (elements.Scalar t) (Some item)
-a_gap s t item range unseen least =
-    record {
-      unseen = record { in_range = range; counts = tt; not_seen = unseen };
-      least = λ other u. least other u.in_range u.not_seen;
-    }
+a_gap s t item range unseen least = search rules
 
 abbrev whole_in : Form → Whole
 whole_in (Integer w) = w
@@ -97,8 +93,7 @@ text_seen (F64 bits) h counts = absurd h
 no_text : (other : Leaf) → InRange (scalar_form scalars.Bytes) other → is_seen numbers (elements.Scalar scalars.Bytes) (elements.Scalar scalars.String) other ≡ false → 2 ≤ body_length (scalar_form scalars.Bytes) other
 unfolding is_utf8 chars
 no_text (Bytes []) h unseen = absurd (cc)
-no_text (Bytes (b ∷ bytes)) h unseen =
-    omega (arith, lengths_grow.3 (length (b ∷ bytes)), length-append (varint (length (b ∷ bytes))) (b ∷ bytes))
+no_text (Bytes (b ∷ bytes)) h unseen = search (rules, lengths_grow, length-append)
 no_text (Int n) h unseen = absurd h
 no_text (F32 bits) h unseen = absurd h
 no_text (F64 bits) h unseen = absurd h
@@ -166,14 +161,8 @@ all_gaps scalars.Int64 scalars.Bool = (refl, refl, a_gap scalars.Int64 scalars.B
 all_gaps scalars.Int64 scalars.Sint32 = (refl, refl, a_gap scalars.Int64 scalars.Sint32 (Int (pos 1)) (omega arith) refl (only_ints _ whole_int64 (λ n r u. lengths_grow.3 _) (λ n r u. lengths_grow.3 _)), refl)
 all_gaps scalars.Int64 scalars.Sint64 = (refl, refl, a_gap scalars.Int64 scalars.Sint64 (Int (pos 1)) (omega arith) refl (only_ints _ whole_int64 (λ n r u. lengths_grow.3 _) (λ n r u. lengths_grow.3 _)), refl)
 all_gaps scalars.Int64 t = refl
-all_gaps scalars.Uint32 scalars.Int32 = (
-  refl,
-  refl,
-  a_gap scalars.Uint32 scalars.Int32 (Int (pos (2 ^ 31))) (omega arith) refl
-      (only_ints _ whole_uint32 (λ n r u. let out : n < (2 ^ 31) → ⊥ = λ k. out_of_range scalars.Uint32 scalars.Int32 (Int (pos n)) u refl k in lengths_grow.0 (2 ^ 31) n (omega arith))
-      (λ n r u. lengths_grow.0 (2 ^ 31) (2 ^ 64 - suc n) (omega arith))),
-  refl,
-)
+all_gaps scalars.Uint32 scalars.Int32 =
+    search (rules, a_gap, pos, only_ints, out_of_range, lengths_grow)
 all_gaps scalars.Uint32 scalars.Int64 = (refl, no_gap scalars.Uint32 scalars.Int64 (only_ints _ whole_uint32 (λ n r. (omega arith, refl)) (λ n r. (omega arith, refl))))
 all_gaps scalars.Uint32 scalars.Uint32 = (refl, no_gap_same scalars.Uint32)
 all_gaps scalars.Uint32 scalars.Uint64 = (refl, no_gap scalars.Uint32 scalars.Uint64 (only_ints _ whole_uint32 (λ n r. (omega arith, refl)) (λ n r. (omega arith, refl))))
@@ -273,14 +262,7 @@ counts_too false item h = h
 either_way : (s t : Scalar) (g : Gap) → IsTrueOfAll s t g → IsTrueOf s t g
 either_way s t gaps.Unlike h = h
 either_way s t gaps.None h = (h.0, λ zero item range counts. h.1 item range tt)
-either_way s t (gaps.Least length value) h = (
-  h.0,
-  h.1,
-  λ zero. record {
-    unseen = record { in_range = h.2.unseen.in_range; counts = counts_too zero (item_named (scalar_form s) value) h.3; not_seen = h.2.unseen.not_seen };
-    least = λ other u. h.2.least other (record { in_range = u.in_range; counts = tt; not_seen = u.not_seen });
-  },
-)
+either_way s t (gaps.Least length value) h = search (rules, counts_too)
 
 pub gap_table : GapTable
 gap_table s t = either_way s t (gap s t) (all_gaps s t)

@@ -1,20 +1,18 @@
 -- What a field reads is of its own kind, so content of another kind is never seen.
-use Rattle.std.proofs.Common.{◌≡◌, ℕ, List, [], ◌∷◌, map, filter, Bool, true, false, not, ◌&&◌, if◌then◌else◌, Option, Some, None, option_map, ⊎_elim, refl, ap, sym, ◌∙◌, subst}
+use Rattle.std.proofs.Common.{◌≡◌, ℕ, List, [], ◌∷◌, map, filter, Bool, true, false, ◌&&◌, if◌then◌else◌, Option, Some, None, option_map, ⊎_elim, refl, ap, sym, ◌∙◌, subst, rules}
 use Rattle.std.specs.List.{AllByRecursion}
-use Rattle.std.specs.Str.{is_utf8}
 use Rattle.std.proofs.lemmas.Bool.{and_left, and_right, cases_Bool}
 use Rattle.pg_schema.specs.declared.parts.field.TypeId.{TypeId}
 use Rattle.pg_schema.specs.declared.parts.field.Scalar.{Scalar}
 use Rattle.pg_schema.specs.declared.parts.field.Element.{Element}
 use Rattle.pg_schema.specs.declared.parts.field.Element.TheVariants as elements
 use Rattle.pg_schema.specs.declared.parts.field.Presence.{Presence}
-use Rattle.pg_schema.specs.Shape.{FieldShape, is_repeated, is_implicit}
-use Rattle.pg_wire.specs.Reading.{row}
+use Rattle.pg_schema.specs.Shape.{FieldShape, is_repeated}
 use Rattle.pg_wire.specs.Records.{WireRecord}
 use Rattle.pg_dyn.specs.reading.Optional.{all_some, joined, last_of}
-use Rattle.pg_dyn.specs.message.Message.{Leaf, Int, F32, F64, Bytes, Item, Msg, Message, Part, is_zero}
-use Rattle.pg_dyn.specs.word.Coding.{Form, Integer, Single, Double, Text, Raw, form, form_wire, leaf_in, element_at, InRange}
-use Rattle.pg_dyn.specs.reading.Content.{same_wire, takes, leaves_in, packed_leaves, option_from, leaf_bytes, last_item, plain_content, entry_in, by_key}
+use Rattle.pg_dyn.specs.message.Message.{Leaf, Int, F32, F64, Bytes, Item, Message, Part}
+use Rattle.pg_dyn.specs.word.Coding.{Form, Integer, Single, Double, Text, Raw, form, leaf_in, InRange}
+use Rattle.pg_dyn.specs.reading.Content.{takes, leaves_in, last_item, plain_content, entry_in, by_key}
 use Rattle.pg_dyn.specs.reading.Decoding.{Reader, read_item, read_part}
 use Rattle.pg_dyn.specs.views.Comparison.{View, Alike, same_key, matches, alike_leaves, Kept, Comparand}
 use Rattle.pg_dyn.proofs.Lists.{each_weaker, each_of_all, each-map, and_then_some, option_map_some, each_some, each-joined, each_filtered}
@@ -51,38 +49,14 @@ range_kind Raw (Bytes n) h = refl
 range_kind f leaf h = absurd h
 
 pub leaf_in_kind : (f : Form) (bytes : List ℕ) (leaf : Leaf) → leaf_in f bytes ≡ Some leaf → IsOfForm f leaf
-leaf_in_kind (Integer w) bytes leaf h = subst (IsOfForm (Integer w)) (the_same _ leaf h) refl
-  where
-    the_same : (a b : Leaf) → ◌≡◌ {A = Option Leaf} (Some a) (Some b) → a ≡ b
-    the_same a b e = cc
-leaf_in_kind Single bytes leaf h = subst (IsOfForm Single) (the_same _ leaf h) refl
-  where
-    the_same : (a b : Leaf) → ◌≡◌ {A = Option Leaf} (Some a) (Some b) → a ≡ b
-    the_same a b e = cc
-leaf_in_kind Double bytes leaf h = subst (IsOfForm Double) (the_same _ leaf h) refl
-  where
-    the_same : (a b : Leaf) → ◌≡◌ {A = Option Leaf} (Some a) (Some b) → a ≡ b
-    the_same a b e = cc
-leaf_in_kind Raw bytes leaf h = subst (IsOfForm Raw) (the_same _ leaf h) refl
-  where
-    the_same : (a b : Leaf) → ◌≡◌ {A = Option Leaf} (Some a) (Some b) → a ≡ b
-    the_same a b e = cc
-leaf_in_kind Text bytes leaf h = of (is_utf8 bytes) h
-  where
-    of : (b : Bool) → (if b then Some (Bytes bytes) else None) ≡ Some leaf → IsOfForm Text leaf
-    of true e = let same : Bytes bytes ≡ leaf = cc in subst (IsOfForm Text) same refl
-    of false e = absurd (cc)
+leaf_in_kind (Integer w) bytes leaf h = search rules
+leaf_in_kind Single bytes leaf h = search rules
+leaf_in_kind Double bytes leaf h = search rules
+leaf_in_kind Raw bytes leaf h = search rules
+leaf_in_kind Text bytes leaf h = search rules
 
 leaves_kind : (g : FieldShape) (r : WireRecord) (leaves : List Leaf) → leaves_in g r ≡ Some leaves → AllByRecursion (IsOfForm (form g.element)) leaves
-leaves_kind g r leaves h = of (same_wire r.wire (form_wire (form g.element))) h
-  where
-    of : (b : Bool) → (if b then option_map (λ leaf. leaf ∷ []) (leaf_in (form g.element) r.body) else packed_leaves (form g.element) r.body) ≡ Some leaves → AllByRecursion (IsOfForm (form g.element)) leaves
-    of true e =
-        let (leaf, read, made) = option_map_some (λ (l : Leaf). l ∷ []) (leaf_in (form g.element) r.body) leaves e in
-        subst (AllByRecursion (IsOfForm (form g.element))) made (leaf_in_kind (form g.element) r.body leaf read, tt)
-    of false e =
-        let (bodies, read, all) = and_then_some (λ bs. all_some (map (leaf_in (form g.element)) bs)) (option_from (row (element_at (form_wire (form g.element))) r.body)) leaves e in
-        each_some (IsOfForm (form g.element)) (leaf_in (form g.element)) (leaf_in_kind (form g.element)) bodies leaves all
+leaves_kind g r leaves h = search (rules, option_map_some, leaf_in_kind, and_then_some, each_some)
 
 last_each : {A : Type 0} (P : A → Type 0) (xs : List A) → AllByRecursion P xs → AllByRecursion P (last_of xs)
 last_each P [] h = tt
@@ -91,12 +65,8 @@ last_each P (x ∷ y ∷ xs) h = last_each P (y ∷ xs) h.1
 
 last_item_each : (P : Leaf → Type 0) (p : Presence) (d : Element) → IsLeafy d → (leaves : List Leaf) → AllByRecursion P leaves → AllByRecursion P (last_item p d leaves)
 last_item_each P p (elements.Message t) leafy leaves h = absurd leafy
-last_item_each P p (elements.Scalar s) leafy leaves h =
-    elim (is_implicit p) as (λ b. AllByRecursion P (if b then filter (λ leaf. not (is_zero leaf)) (last_of leaves) else last_of leaves))
-    [ true ↦ each_filtered P (λ leaf. not (is_zero leaf)) (last_of leaves) (last_each P leaves h) | false ↦ last_each P leaves h ]
-last_item_each P p (elements.Enum s) leafy leaves h =
-    elim (is_implicit p) as (λ b. AllByRecursion P (if b then filter (λ leaf. not (is_zero leaf)) (last_of leaves) else last_of leaves))
-    [ true ↦ each_filtered P (λ leaf. not (is_zero leaf)) (last_of leaves) (last_each P leaves h) | false ↦ last_each P leaves h ]
+last_item_each P p (elements.Scalar s) leafy leaves h = search (rules, each_filtered, last_each)
+last_item_each P p (elements.Enum s) leafy leaves h = search (rules, each_filtered, last_each)
 
 pub content_kind : (g : FieldShape) → IsLeafy g.element → (rs : List WireRecord) (leaves : List Leaf) → plain_content g rs ≡ Some leaves → AllByRecursion (IsOfForm (form g.element)) leaves
 content_kind g leafy rs leaves h =
@@ -143,14 +113,7 @@ each_some_from {A} {B} R P g gives (x ∷ xs) each ys h =
 -- A leaf isn't among children.
 pub leaf_matches_no_child : (view : View) (child : Reader) (f g : FieldShape) (t : TypeId) → g.element ≡ elements.Message t → (c : Comparand) (leaf : Leaf) → c.expected ≡ Alike leaf → (rs : List WireRecord) (qs : List (Part Item)) → field_read child g rs ≡ Some qs → NoneMatches view f g c qs
 leaf_matches_no_child view child f g t is c leaf so rs qs h =
-    let (ps, content_is, read) = and_then_some (λ xs. all_some (map (read_part child g.element) xs)) _ qs h in
-    each_some (λ (q : Part Item). (same_key c.key q.key && matches view f g c.expected q.item) ≡ false) (read_part child g.element)
-    (λ p q e.
-    let (item, item_is, made) = option_map_some (λ (i : Item). record { number = p.number; key = p.key; item = i }) (read_item child g.element p.item) q e in
-    let (m, message_is, is_message) = option_map_some Msg (child t (leaf_bytes p.item)) item (subst (λ x. read_item child x p.item ≡ Some item) is item_is) in
-    subst (λ (x : Part Item). (same_key c.key x.key && matches view f g c.expected x.item) ≡ false) made
-    (and_right (same_key c.key p.key) (matches view f g c.expected item) (rw (so, ← is_message))))
-    ps qs read
+    search (rules, and_then_some, each_some, option_map_some, and_right)
 
 -- An entry isn't among the parts of a field that is no map, nor another part among entries.
 pub entry_matches_none : (view : View) (child : Reader) (f g : FieldShape) → NotMap child g → (c : Comparand) (k : Leaf) → c.key ≡ Some k → (rs : List WireRecord) (qs : List (Part Item)) → field_read child g rs ≡ Some qs → NoneMatches view f g c qs

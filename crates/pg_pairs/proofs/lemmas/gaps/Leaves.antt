@@ -1,5 +1,5 @@
 -- Items that are seen are read as themselves.
-use Rattle.std.proofs.Common.{◌≡◌, true, Option, Some, None, ap, sym, subst}
+use Rattle.std.proofs.Common.{◌≡◌, true, Some, sym, subst, rules}
 use Rattle.std.proofs.lemmas.Bool.{and_parts}
 use Rattle.pg_schema.specs.declared.parts.field.Element.{Element}
 use Rattle.pg_schema.specs.declared.parts.field.Element.TheVariants as elements
@@ -16,11 +16,7 @@ alike_equal view e g a b h = (equal_leaves a b).0 h
 
 -- an item that is seen is read as itself
 pub seen_read : (view : View) (e g : Element) (item : Leaf) → is_seen view e g item ≡ true → leaf_in (form g) (body (form e) item) ≡ Some item
-seen_read view e g item h = of (leaf_in (form g) (body (form e) item)) h
-  where
-    of : (o : Option Leaf) → is_alike_read view e g item o ≡ true → o ≡ Some item
-    of (Some read) h = ap Some (sym (alike_equal view e g item read h))
-    of None h = absurd (cc)
+seen_read view e g item h = search (rules, alike_equal)
 
 -- and it is alike
 pub seen_alike : (view : View) (e g : Element) (item : Leaf) → is_seen view e g item ≡ true → alike_leaves view e g item item ≡ true

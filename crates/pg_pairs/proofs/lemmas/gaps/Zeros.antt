@@ -1,5 +1,5 @@
 -- Zero items: an explicit field's zero isn't seen missing by an implicit one.
-use Rattle.std.proofs.Common.{◌≡◌, ℕ, pos, List, [], ◌∷◌, Bool, true, false, not, ◌&&◌, ◌||◌, nat_eq, Option, Some, refl, ap, ◌∙◌, eqb-true}
+use Rattle.std.proofs.Common.{◌≡◌, ℕ, pos, List, [], ◌∷◌, Bool, true, false, ◌&&◌, ◌||◌, Option, Some, refl, ap, eqb-true, rules}
 use Rattle.std.specs.Str.{is_utf8, chars}
 use Rattle.std.proofs.lemmas.Bool.{and_from, and_parts, and_right}
 use Rattle.std.proofs.lemmas.Bool.Decides.{Decides-int_eq}
@@ -18,7 +18,7 @@ use Rattle.pg_dyn.specs.word.Coding.{Form, Integer, Single, Double, Text, Raw, f
 use Rattle.pg_dyn.specs.reading.Content.{same_wire, takes, leaves_in, last_item}
 use Rattle.pg_dyn.specs.encoding.Writing.{item_record}
 use Rattle.pg_dyn.specs.reading.Decoding.{Reader, is_child}
-use Rattle.pg_dyn.specs.views.Comparison.{View, Alike, is_zero_expected, same_content, Comparand, expects}
+use Rattle.pg_dyn.specs.views.Comparison.{View, Alike, same_content, Comparand, expects}
 use Rattle.pg_dyn.specs.laws.ByComparands.{field_read, all_field_readable, is_field_kept}
 use Rattle.pg_pairs.proofs.lemmas.gaps.GapItems.{IsLeafy}
 use Rattle.pg_pairs.proofs.lemmas.gaps.Likeness.{same_wire-true}
@@ -79,9 +79,7 @@ zero_is_zero Raw = refl
 -- a zero is read as a zero wherever its record is accepted
 pub zero_across : (e d : Element) (item : Leaf) → same_wire (form_wire (form e)) (form_wire (form d)) ≡ true → InRange (form e) item → is_zero item ≡ true → leaf_in (form d) (body (form e) item) ≡ Some (zero_leaf (form d))
 zero_across e d item wires range h =
-    ap (λ i. leaf_in (form d) (body (form e) i)) (zero_by_form (form e) item range h)
-    ∙ ap (leaf_in (form d)) (zero_written e ∙ ap zero_bytes (same_wire-true _ _ wires))
-    ∙ zero_read d
+    search (rules, zero_by_form, zero_written, same_wire-true, zero_read)
 
 leafy_child : (child : Reader) (d : Element) (bytes : List ℕ) → IsLeafy d → is_child child d bytes ≡ true
 leafy_child child (elements.Scalar s) bytes h = refl
@@ -107,10 +105,7 @@ module _ (view : View) (child : Reader) (number : ℕ) (e d : Element) (o q : Op
   new = record { number = number; presence = presences.Implicit; element = d; oneof = q }
 
   nothing_shown : same_content view old new (expects c ∷ []) [] ≡ true
-  nothing_shown =
-      let hidden : (nat_eq c.number number && not (true && is_zero_expected c.expected)) ≡ false =
-      and_right (nat_eq c.number number) (not (true && is_zero_expected c.expected)) (rw (expected_is, zero)) in
-      rw hidden
+  nothing_shown = search (rules, and_right)
 
   abbrev the_record : WireRecord
   the_record = item_record number e c.written
@@ -126,9 +121,7 @@ module _ (view : View) (child : Reader) (number : ℕ) (e d : Element) (o q : Op
   -- the record isn't accepted, or its zero is dropped
   zero_read_by : (b : Bool) → takes new the_record ≡ b → (all_field_readable child new (the_record ∷ []) ≡ true) × (field_read child new (the_record ∷ []) ≡ Some [])
   zero_read_by false h = (rw h, rw (h, last_items.0 presences.Implicit d))
-  zero_read_by true h =
-      let leaves = zero_leaves h in
-      (rw (h, leaves, leafy_child child d the_record.body leafy), rw (h, leaves, dropped d leafy))
+  zero_read_by true h = search (rules, zero_leaves, leafy_child, dropped)
 
   pub hidden_read : field_read child new (the_record ∷ []) ≡ Some []
   hidden_read = (zero_read_by (takes new the_record) refl).1

@@ -1,5 +1,5 @@
 -- A pair's choices under a table, and so its least cost, by those without bounds and by its edges.
-use Rattle.std.proofs.Common.{option_to_list, ◌≡◌, ℕ, List, [], ◌∷◌, ◌++◌, map, flat_map, Bool, true, false, nat_le, cond, if◌then◌else◌, Option, Some, None, option_map, option_and_then, refl, ap, ap₂, sym, ◌∙◌, arith}
+use Rattle.std.proofs.Common.{option_to_list, ◌≡◌, ℕ, List, [], ◌∷◌, ◌++◌, map, flat_map, Bool, true, false, nat_le, cond, if◌then◌else◌, Option, Some, None, option_map, option_and_then, refl, ap, ap₂, sym, ◌∙◌, rules}
 use Rattle.std.specs.List.{AllByRecursion}
 use Rattle.std.proofs.lemmas.Bool.{leb-true, leb-false, le-leb, lt-leb}
 use Rattle.std.proofs.lemmas.List.{append-nil, map-append}
@@ -7,7 +7,6 @@ use Rattle.pg_schema.specs.declared.parts.field.Scalar.{Scalar}
 use Rattle.pg_schema.specs.declared.parts.field.Element.{Element}
 use Rattle.pg_schema.specs.declared.parts.field.Element.TheVariants as elements
 use Rattle.pg_schema.specs.Shape.{Shape, FieldShape, fields, field_at}
-use Rattle.pg_dyn.specs.encoding.Encoding.{cap}
 use Rattle.pg_dyn.proofs.Lists.{filter-append'}
 use Rattle.pg_dyn.proofs.PublicLaws.{fields_are_found}
 use Rattle.pg_pairs.specs.declared.choices.case.Case.{Case}
@@ -18,7 +17,7 @@ use Rattle.pg_pairs.specs.declared.graph.edge.Edge.{Edge}
 use Rattle.pg_pairs.specs.views.EnumView.{EnumView}
 use Rattle.pg_pairs.specs.gaps.Likeness.{like}
 use Rattle.pg_pairs.specs.choices.Costs.{with_length, one_item, least_content}
-use Rattle.pg_pairs.specs.choices.Choices.{child_pair, Table, number_for, choice, choice_of, unlike_cost, child_body, plain_choices, map_choices, joined_choices, choices_beside, all_choices, affordable, no_bounds, choices_by, map_key, cheapest}
+use Rattle.pg_pairs.specs.choices.Choices.{child_pair, Table, number_for, choice, choice_of, unlike_cost, child_body, plain_choices, map_choices, choices_beside, all_choices, affordable, no_bounds, choices_by, map_key, cheapest}
 use Rattle.pg_pairs.specs.laws.CheapestLaws.{first_of}
 use Rattle.pg_pairs.specs.bounds.Covering.{children_beside, children_by}
 use Rattle.pg_pairs.specs.graph.LeastOf.{cost_under, least_of, lesser_cost}
@@ -39,9 +38,7 @@ cost_first (Some c) None = refl
 cost_first (Some c) (Some d) = elim (nat_le c.cost d.cost) as (λ b. cost_of (Some (cond b c d)) ≡ cond b (Some c.cost) (Some d.cost)) [ true ↦ refl | false ↦ refl ]
 
 cost-append : (cs ds : List Choice) → cost (cs ++ ds) ≡ lesser_cost (cost cs) (cost ds)
-cost-append cs ds =
-    ap (λ es. cost_of (cheapest es)) (filter-append' (λ (c : Choice). nat_le c.cost cap) cs ds)
-    ∙ ap cost_of (cheapest-append (affordable cs) (affordable ds)) ∙ cost_first (cheapest (affordable cs)) (cheapest (affordable ds))
+cost-append cs ds = search (rules, cost_of, filter-append', cheapest-append, cost_first)
 
 -- Of costs the least is the same in any order.
 
@@ -52,25 +49,13 @@ lesser_none (Some m) = refl
 lesser_turned : (a b : Option ℕ) → lesser_cost a b ≡ lesser_cost b a
 lesser_turned None b = sym (lesser_none b)
 lesser_turned (Some m) None = refl
-lesser_turned (Some m) (Some n) = of (nat_le m n) (nat_le n m) refl refl
-  where
-    of : (l k : Bool) → nat_le m n ≡ l → nat_le n m ≡ k → cond l (Some m) (Some n) ≡ cond k (Some n) (Some m)
-    of true true less more = let below = leb-true m n less in let above = leb-true n m more in let same : m ≡ n = omega arith in ap (λ x. Some x) same
-    of true false less more = refl
-    of false true less more = refl
-    of false false less more = let above = leb-false m n less in let below = leb-false n m more in absurd (omega arith)
+lesser_turned (Some m) (Some n) = search (rules, leb-true, leb-false)
 
 lesser_grouped : (a b c : Option ℕ) → lesser_cost (lesser_cost a b) c ≡ lesser_cost a (lesser_cost b c)
 lesser_grouped None b c = refl
 lesser_grouped (Some m) None c = refl
 lesser_grouped (Some m) (Some n) None = lesser_none (lesser_cost (Some m) (Some n))
-lesser_grouped (Some m) (Some n) (Some k) = of (nat_le m n) (nat_le n k) refl refl
-  where
-    of : (l r : Bool) → nat_le m n ≡ l → nat_le n k ≡ r → lesser_cost (cond l (Some m) (Some n)) (Some k) ≡ lesser_cost (Some m) (cond r (Some n) (Some k))
-    of true true less later = rw (less, le-leb m k (let below = leb-true m n less in let above = leb-true n k later in omega arith)) refl
-    of true false less later = refl
-    of false true less later = rw (less, later) refl
-    of false false less later = rw (later, lt-leb m k (let below = leb-false m n less in let above = leb-false n k later in omega arith)) refl
+lesser_grouped (Some m) (Some n) (Some k) = search (rules, le-leb, leb-true, lt-leb, leb-false)
 
 -- the last two are exchanged
 lesser_last : (a b c : Option ℕ) → lesser_cost (lesser_cost a b) c ≡ lesser_cost (lesser_cost a c) b
@@ -107,9 +92,7 @@ module _ (enum_view : EnumView) (table : Table) where
 
   capped : (f : FieldShape) (case : Case) (part : ℕ) (o : Option ℕ) → cost (choice_of f.number case part (option_map (one_item f) (option_map with_length o))) ≡ option_and_then (child_cost f) o
   capped f case part None = refl
-  capped f case part (Some n) =
-      let bytes = one_item f (with_length n) in
-      elim (nat_le bytes cap) as (λ b. cost_of (cheapest (cond b (choice f.number case part bytes ∷ []) [])) ≡ (if b then Some bytes else None)) [ true ↦ refl | false ↦ refl ]
+  capped f case part (Some n) = search (rules, cost_of)
 
   child_without : (f : FieldShape) (case : Case) (part : ℕ) (e d : Element) → choice_of f.number case part (option_map (one_item f) (child_body no_bounds e d)) ≡ []
   child_without f case part (elements.Message s) (elements.Message t) = refl
@@ -120,8 +103,7 @@ module _ (enum_view : EnumView) (table : Table) where
 
   child_under : (f : FieldShape) (case : Case) (part : ℕ) (e d : Element) → cost (choice_of f.number case part (option_map (one_item f) (child_body table e d))) ≡ by_children f (option_to_list (child_pair e d))
   child_under f case part (elements.Message s) (elements.Message t) =
-      let p : Pair = record { old = s; new = t } in
-      capped f case part (number_for table p) ∙ sym (lesser_none (option_and_then (child_cost f) (number_for table p)))
+      search (rules, capped, lesser_none, option_and_then)
   child_under f case part (elements.Message s) (elements.Scalar t) = refl
   child_under f case part (elements.Message s) (elements.Enum t) = refl
   child_under f case part (elements.Scalar s) d = refl
@@ -129,27 +111,19 @@ module _ (enum_view : EnumView) (table : Table) where
 
   -- where a child is the last of the choices
   child_last : (f : FieldShape) (others child none : List Choice) (ps : List Pair) → cost child ≡ by_children f ps → none ≡ [] → Splits f (others ++ child) (others ++ none) ps
-  child_last f others child none ps is empty =
-      cost-append others child ∙ ap (lesser_cost (cost others)) is
-      ∙ ap (λ cs. lesser_cost (cost cs) (by_children f ps)) (sym (append-nil others) ∙ ap (λ cs. others ++ cs) (sym empty))
+  child_last f others child none ps is empty = search (rules, cost-append, append-nil)
 
   -- others without a child follow choices that split
   then_others : (f : FieldShape) (under without others : List Choice) (ps : List Pair) → Splits f under without ps → Splits f (under ++ others) (without ++ others) ps
-  then_others f under without others ps split =
-      cost-append under others ∙ ap (λ o. lesser_cost o (cost others)) split
-      ∙ lesser_last (cost without) (by_children f ps) (cost others) ∙ ap (λ o. lesser_cost o (by_children f ps)) (sym (cost-append without others))
+  then_others f under without others ps split = search (rules, cost-append, lesser_last)
 
   like_split : (f g : FieldShape) → Splits f (like_choices enum_view table f g) (like_choices enum_view no_bounds f g) (option_to_list (child_pair f.element g.element))
   like_split f g =
-      let gap = gap_choice enum_view f g in
-      let ps = option_to_list (child_pair f.element g.element) in
-      then_others f (gap ++ child_choice table f g) (gap ++ child_choice no_bounds f g) (list_choice f g) ps
-      (child_last f gap (child_choice table f g) (child_choice no_bounds f g) ps (child_under f cases.Child 0 f.element g.element) (child_without f cases.Child 0 f.element g.element))
+      search (rules, gap_choice, option_to_list, then_others, child_choice, list_choice, child_last, child_under, child_without)
 
   like_maps_split : (f g : FieldShape) (k l : Scalar) → Splits f (like_map_choices enum_view table f g k l) (like_map_choices enum_view no_bounds f g k l) (option_to_list (child_pair f.element g.element))
   like_maps_split f g k l =
-      child_last f (key_choice enum_view f k l ++ value_choice enum_view f g) (map_child_choice table f g) (map_child_choice no_bounds f g) (option_to_list (child_pair f.element g.element))
-      (child_under f cases.Map 2 f.element g.element) (child_without f cases.Map 2 f.element g.element)
+      search (rules, child_last, key_choice, value_choice, map_child_choice, option_to_list, child_under, child_without)
 
   plain_split : (f g : FieldShape) → Splits f (plain_choices enum_view table f g) (plain_choices enum_view no_bounds f g) (option_to_list (child_pair f.element g.element))
   plain_split f g = of (like f.element g.element) refl
@@ -193,16 +167,7 @@ module _ (enum_view : EnumView) (table : Table) where
   all_split : (gs fs : List FieldShape) → cost (all_choices enum_view table gs fs) ≡ lesser_cost (cost (all_choices enum_view no_bounds gs fs)) (by_fields gs fs)
   all_split gs [] = refl
   all_split gs (f ∷ later) =
-      let here = field_at gs f.number in
-      let under = choices_beside enum_view table f here in
-      let own = choices_beside enum_view no_bounds f here in
-      let ps = children_beside f here in
-      let joins = joined_choices gs f later in
-      let rest = all_choices enum_view no_bounds gs later in
-      cost-append (under ++ joins) (all_choices enum_view table gs later)
-      ∙ ap₂ lesser_cost (then_others f under own joins ps (beside_split f here)) (all_split gs later)
-      ∙ lesser_apart (cost (own ++ joins)) (by_children f ps) (cost rest) (by_fields gs later)
-      ∙ ap (λ o. lesser_cost o (by_fields gs (f ∷ later))) (sym (cost-append (own ++ joins) rest))
+      search (rules, all_split gs later, cost-append, then_others, beside_split, lesser_apart)
 
 -- Costs of edges.
 
@@ -214,10 +179,7 @@ module _ (table : Table) (old new : Shape) (pair : Pair) where
   own_costs : (enum_view : EnumView) (f : FieldShape) (ps : List Pair) → field_at (fields old pair.old) f.number ≡ Some f → by_children enum_view table f ps ≡ least_of (map edge_cost (map (edge_to pair f) ps))
   own_costs enum_view f [] found = refl
   own_costs enum_view f (p ∷ ps) found =
-      ap₂ lesser_cost (of (number_for table p)) (own_costs enum_view f ps found)
-    where
-      of : (o : Option ℕ) → option_and_then (child_cost f) o ≡ option_and_then (λ bound. option_and_then (λ g. child_cost g bound) (field_at (fields old pair.old) f.number)) o
-      of o = ap (λ at. option_and_then (λ bound. option_and_then (λ g. child_cost g bound) at) o) (sym found)
+      search (rules, own_costs enum_view f ps found, option_and_then)
 
   all_costs : (enum_view : EnumView) (fs : List FieldShape) → AllByRecursion (λ (f : FieldShape). field_at (fields old pair.old) f.number ≡ Some f) fs
       → by_fields enum_view table (fields new pair.new) fs ≡ least_of (map edge_cost (flat_map (λ (f : FieldShape). map (edge_to pair f) (children_beside f (field_at (fields new pair.new) f.number))) fs))

@@ -1,5 +1,5 @@
 -- What holds of the pairs of two schemas' types, of their edges, and of what these cost.
-use Rattle.std.proofs.Common.{option_to_list, ◌≡◌, ℕ, suc, ◌+◌, ◌*◌, ◌^◌, ◌<◌, ◌≤◌, ◌⊎◌, List, [], ◌∷◌, map, flat_map, filter, length, Bool, true, false, not, ◌||◌, nat_le, nat_lt, eqb, eqb-true, eq-eqb, ne_eqb, cond, if◌then◌else◌, Option, Some, None, IfSome, option_and_then, inl, inr, ⊎_elim, refl, sym, ◌∙◌, subst, arith, ltb-true, lt-ltb, length-append}
+use Rattle.std.proofs.Common.{option_to_list, ◌≡◌, ℕ, suc, ◌+◌, ◌*◌, ◌^◌, ◌<◌, ◌≤◌, ◌⊎◌, List, [], ◌∷◌, map, flat_map, filter, length, Bool, true, false, not, nat_lt, eqb, eqb-true, eq-eqb, ne_eqb, cond, Option, Some, None, IfSome, option_and_then, ⊎_elim, refl, sym, subst, arith, ltb-true, lt-ltb, length-append, rules}
 use Rattle.std.specs.List.{AllByRecursion, IsDistinct, list_any}
 use Rattle.std.proofs.lemmas.Bool.{and_parts, leb-true}
 use Rattle.std.proofs.lemmas.List.{length-map}
@@ -17,10 +17,10 @@ use Rattle.pg_dyn.proofs.Lists.{each_at, each-flat_map, each_weaker}
 use Rattle.pg_dyn.proofs.PublicLaws.{fields_are_found}
 use Rattle.pg_pairs.specs.declared.choices.choice.Pair.{Pair}
 use Rattle.pg_pairs.specs.declared.graph.edge.Edge.{Edge}
-use Rattle.pg_pairs.specs.bounds.Covering.{IsAmong, all_children, children, children_beside, distinct, field_children, has_children, same_pair}
+use Rattle.pg_pairs.specs.bounds.Covering.{IsAmong, all_children, children, children_beside, distinct, field_children, same_pair}
 use Rattle.pg_pairs.specs.choices.Costs.{least_body, one_item, with_length}
-use Rattle.pg_pairs.specs.choices.Choices.{child_pair, no_bounds}
-use Rattle.pg_pairs.specs.graph.Edges.{ArePriced, PairsLeadToPairs, child_cost, edge_price, edge_to, edges, is_pair}
+use Rattle.pg_pairs.specs.choices.Choices.{child_pair}
+use Rattle.pg_pairs.specs.graph.Edges.{ArePriced, PairsLeadToPairs, edge_price, edge_to, edges, is_pair}
 use Rattle.pg_pairs.specs.graph.Reached.{itself, onwards}
 use Rattle.pg_pairs.proofs.lemmas.choices.Among.{among_each}
 use Rattle.pg_pairs.proofs.lemmas.graph.Grown.{each_distinct}
@@ -32,9 +32,7 @@ abbrev AreThere : Shape → Shape → Pair → Type 0
 AreThere old new pair = (pair.old.index < length old) × (pair.new.index < length new)
 
 there : (old new : Shape) (pair : Pair) → is_pair old new pair ≡ true → AreThere old new pair
-there old new pair h =
-    let both = and_parts (nat_lt pair.old.index (length old)) (nat_lt pair.new.index (length new)) h in
-    (ltb-true pair.old.index (length old) both.0, ltb-true pair.new.index (length new) both.1)
+there old new pair h = search (rules, and_parts, nat_lt, ltb-true)
 
 pub is_there : (old new : Shape) (pair : Pair) → pair.old.index < length old → pair.new.index < length new → is_pair old new pair ≡ true
 is_there old new pair old_there new_there = rw (lt-ltb pair.old.index (length old) old_there, lt-ltb pair.new.index (length new) new_there) refl
@@ -51,27 +49,15 @@ same_places a b c d h k same = (omega arith, omega arith)
 
 keys_apart : (p q : Pair) → AreSmall p → AreSmall q → same_pair p q ≡ false → eqb (key p) (key q) ≡ false
 unfolding key AreSmall
-keys_apart p q small_p small_q apart =
-    ne_eqb (key p) (key q) (λ same.
-    let both = same_places p.old.index p.new.index q.old.index q.new.index small_p.1 small_q.1 same in
-    let alike : same_pair p q ≡ true = rw (eq-eqb p.old.index q.old.index both.0, eq-eqb p.new.index q.new.index both.1) refl in
-    let no : true ≡ false = sym alike ∙ apart in cc)
+keys_apart p q small_p small_q apart = search (rules, ne_eqb, same_places, eq-eqb)
 
 each_apart : (p : Pair) (qs : List Pair) → AreSmall p → AllByRecursion AreSmall qs → AllByRecursion (λ k. eqb (key p) k ≡ false) (map key (filter (λ q. not (same_pair p q)) qs))
 each_apart p [] small each = tt
-each_apart p (q ∷ qs) small each = of (same_pair p q) refl (each_apart p qs small each.1)
-  where
-    of : (b : Bool) → same_pair p q ≡ b → AllByRecursion (λ k. eqb (key p) k ≡ false) (map key (filter (λ x. not (same_pair p x)) qs)) → AllByRecursion (λ k. eqb (key p) k ≡ false) (map key (filter (λ x. not (same_pair p x)) (q ∷ qs)))
-    of true is rest = rw is rest
-    of false is rest = rw is (keys_apart p q small each.0 is, rest)
+each_apart p (q ∷ qs) small each = search (rules, each_apart p qs small each.1, eqb, keys_apart)
 
 kept_apart : (k : ℕ) (test : Pair → Bool) (qs : List Pair) → AllByRecursion (λ n. eqb k n ≡ false) (map key qs) → AllByRecursion (λ n. eqb k n ≡ false) (map key (filter test qs))
 kept_apart k test [] h = tt
-kept_apart k test (q ∷ qs) h = of (test q) (kept_apart k test qs h.1)
-  where
-    of : (b : Bool) → AllByRecursion (λ n. eqb k n ≡ false) (map key (filter test qs)) → AllByRecursion (λ n. eqb k n ≡ false) (map key (cond b (q ∷ filter test qs) (filter test qs)))
-    of true rest = (h.0, rest)
-    of false rest = rest
+kept_apart k test (q ∷ qs) h = search (rules, kept_apart k test qs h.1, eqb)
 
 kept_distinct : (test : Pair → Bool) (qs : List Pair) → IsDistinct eqb (map key qs) → IsDistinct eqb (map key (filter test qs))
 unfolding IsDistinct
@@ -90,11 +76,7 @@ keys_distinct (p ∷ ps) each = (each_apart p (distinct ps) each.0 (each_distinc
 keys_below : (ps : List Pair) → AllByRecursion AreSmall ps → (k : ℕ) → list_any (eqb k) (map key ps) ≡ true → k < 16777216
 unfolding key AreSmall
 keys_below [] each k h = absurd (cc)
-keys_below (p ∷ ps) each k h = of (eqb k (key p)) refl h (keys_below ps each.1 k)
-  where
-    of : (b : Bool) → eqb k (key p) ≡ b → b || list_any (eqb k) (map key ps) ≡ true → (list_any (eqb k) (map key ps) ≡ true → k < 16777216) → k < 16777216
-    of true is any later = let same : k ≡ p.old.index * 4096 + p.new.index = eqb-true k (key p) is in let low = each.0.0 in let high = each.0.1 in omega arith
-    of false is any later = later any
+keys_below (p ∷ ps) each k h = search (rules, keys_below ps each.1 k, eqb, eqb-true)
 
 small_of : (old new : Shape) → length old ≤ 4096 → length new ≤ 4096 → (p : Pair) → is_pair old new p ≡ true → AreSmall p
 unfolding AreSmall
@@ -111,9 +93,7 @@ few_pairs old new few_old few_new ps once known =
 
 -- the children of two fields are the pair of their messages, or none
 children_cases : (f g : FieldShape) → (field_children f g ≡ []) ⊎ (field_children f g ≡ option_to_list (child_pair f.element g.element))
-children_cases f g =
-    let here = option_to_list (child_pair f.element g.element) in
-    elim (has_children f.presence g.presence) as (λ b. ((if b then here else []) ≡ []) ⊎ ((if b then here else []) ≡ here)) [ true ↦ inr refl | false ↦ inl refl ]
+children_cases f g = search (rules, option_to_list)
 
 one_message : (e d : Element) → length (option_to_list (child_pair e d)) ≤ 1
 one_message (elements.Message s) (elements.Message t) = omega arith
@@ -136,9 +116,7 @@ module _ (old new : Shape) (is_old : IsShape old) (is_new : IsShape new) where
 
   beside_there : (gs : List FieldShape) → AllByRecursion (IsField (length new)) gs → (f : FieldShape) → IsField (length old) f → (o : Option FieldShape) → field_at gs f.number ≡ o → AllByRecursion (λ p. is_pair old new p ≡ true) (children_beside f o)
   beside_there gs fit f is_f None at = tt
-  beside_there gs fit f is_f (Some g) at =
-      let all = pair_there f.element g.element is_f.element_fits (each_at (IsField (length new)) gs f.number g at fit).element_fits in
-      ⊎_elim (λ none. subst (AllByRecursion (λ p. is_pair old new p ≡ true)) (sym none) tt) (λ one. subst (AllByRecursion (λ p. is_pair old new p ≡ true)) (sym one) all) (children_cases f g)
+  beside_there gs fit f is_f (Some g) at = search (rules, pair_there, each_at, children_cases)
 
   -- children are pairs of the schemas' types
   child_there : (pair child : Pair) → IsAmong child (children old new pair) → is_pair old new child ≡ true
@@ -175,14 +153,7 @@ few_edges old new is_old pair =
   where
     of : (fs : List FieldShape) → length (flat_map (λ (f : FieldShape). map (edge_to pair f) (children_beside f (field_at (fields new pair.new) f.number))) fs) ≤ length fs
     of [] = omega arith
-    of (f ∷ fs) =
-        let ps = children_beside f (field_at (fields new pair.new) f.number) in
-        let rest = flat_map (λ (f : FieldShape). map (edge_to pair f) (children_beside f (field_at (fields new pair.new) f.number))) fs in
-        let sum = length-append (map (edge_to pair f) ps) rest in
-        let here = length-map ps (edge_to pair f) in
-        let one = one_child f (field_at (fields new pair.new) f.number) in
-        let later = of fs in
-        omega arith
+    of (f ∷ fs) = search (rules, of fs, flat_map, length-append, length-map, one_child)
 
 -- What an edge costs.
 
@@ -203,21 +174,8 @@ item_more f n = of f.number f.presence f.element f.oneof
     of m (presences.Map k) e o = let more = more_than n 0 in let whole = more_than (2 + least_body (elements.Scalar k) + with_length n) 0 in omega arith
 
 edge_costs_more : (old : Shape) (edge : Edge) (bound : ℕ) → IfSome (edge_price old edge bound) (λ cost. (bound < cost) × (cost ≤ cap))
-edge_costs_more old edge bound = of (field_at (fields old edge.from.old) edge.number)
-  where
-    within : (n : ℕ) → bound < n → (b : Bool) → nat_le n cap ≡ b → IfSome (if b then Some n else None) (λ cost. (bound < cost) × (cost ≤ cap))
-    within n more true h = (more, leb-true n cap h)
-    within n more false h = tt
-
-    of : (o : Option FieldShape) → IfSome (option_and_then (λ f. child_cost f bound) o) (λ cost. (bound < cost) × (cost ≤ cap))
-    of None = tt
-    of (Some f) = within (one_item f (with_length bound)) (item_more f bound) (nat_le (one_item f (with_length bound)) cap) refl
+edge_costs_more old edge bound = search (rules, leb-true, option_and_then, item_more)
 
 pub are_priced : (old new : Shape) → IsShape old → IsShape new → ArePriced old new
-are_priced old new is_old is_new = record {
-  pairs_few = few_pairs old new is_old.few is_new.few;
-  children_there = child_there old new is_old is_new;
-  edges_few = few_edges old new is_old;
-  bases_are_lengths = λ enum_view pair. least_costs_are_lengths enum_view old new no_bounds pair;
-  costs_more = edge_costs_more old;
-}
+are_priced old new is_old is_new =
+    search (rules, few_pairs, child_there, few_edges, least_costs_are_lengths, edge_costs_more)

@@ -1,11 +1,11 @@
 -- Lists that have each pair once, as they grow.
-use Rattle.std.proofs.Common.{◌≡◌, ℕ, ◌+◌, ◌<◌, List, [], ◌∷◌, ◌++◌, take, length, get_or, Bool, true, false, not, ◌||◌, cond, if◌then◌else◌, refl, ap, sym, ◌∙◌, subst, append-nil, append_assoc, add-one}
+use Rattle.std.proofs.Common.{◌≡◌, ℕ, ◌+◌, ◌<◌, List, [], ◌∷◌, ◌++◌, take, length, get_or, true, false, not, ◌||◌, cond, if◌then◌else◌, refl, ap, sym, ◌∙◌, append-nil, append_assoc, add-one, rules}
 use Rattle.std.specs.BTreeSet.{BTreeSet, Updates, contains}
 use Rattle.std.specs.List.{AllByRecursion}
 use Rattle.std.proofs.Math.Seq.{take-suc}
 use Rattle.pg_pairs.specs.declared.choices.choice.Pair.{Pair}
 use Rattle.pg_pairs.specs.bounds.Covering.{same_pair, distinct}
-use Rattle.pg_pairs.specs.laws.ByIndices.{by_indices, equal_same}
+use Rattle.pg_pairs.specs.laws.ByIndices.{by_indices}
 use Rattle.pg_pairs.specs.inner.Seen.{has_pair, AreSeen}
 use Rattle.pg_dyn.proofs.Lists.{each_filtered}
 use Rattle.pg_pairs.specs.laws.EdgeChildren.{same_pair-true}
@@ -33,11 +33,7 @@ alike xs zs (y ∷ ys) h =
     ∙ ap distinct (append_assoc zs (y ∷ []) ys)
 
 grown_once : (zs : List Pair) (y : Pair) → distinct zs ≡ zs → distinct (grown zs y) ≡ grown zs y
-grown_once zs y once =
-    elim (has_pair zs y) as (λ b. has_pair zs y ≡ b → distinct (if b then zs else zs ++ y ∷ []) ≡ (if b then zs else zs ++ y ∷ [])) [
-      | true ↦ λ h. once
-      | false ↦ λ h. distinct-more zs y ∙ ap (λ ps. grown ps y) once ∙ grown_new zs y h
-    ] refl
+grown_once zs y once = search (rules, distinct-more, grown_new)
 
 -- the front of a list that has each pair once may be grown first
 first_grown : (zs : List Pair) (y : Pair) (ys : List Pair) → distinct zs ≡ zs → distinct (zs ++ y ∷ ys) ≡ distinct (grown zs y ++ ys)
@@ -46,12 +42,9 @@ first_grown zs y ys once =
     ∙ alike (zs ++ y ∷ []) (grown zs y) ys (distinct-more zs y ∙ ap (λ ps. grown ps y) once ∙ sym (grown_once zs y once))
 
 once_after : (zs ys : List Pair) → distinct zs ≡ zs → distinct (distinct (zs ++ ys)) ≡ distinct (zs ++ ys)
-once_after zs [] once =
-    let same : distinct (zs ++ []) ≡ zs = ap distinct (append-nil zs) ∙ once in
-    ap distinct same ∙ once ∙ sym same
+once_after zs [] once = search (rules, append-nil)
 once_after zs (y ∷ ys) once =
-    let same = first_grown zs y ys once in
-    ap distinct same ∙ once_after (grown zs y) ys (grown_once zs y once) ∙ sym same
+    search (rules, once_after (grown zs y) ys (grown_once zs y once), first_grown, grown_once)
 
 -- distinct pairs are so again
 pub distinct-again : (ps : List Pair) → distinct (distinct ps) ≡ distinct ps
@@ -61,12 +54,7 @@ distinct-again ps = once_after [] ps refl
 pub grown_after : (zs ys : List Pair) → distinct zs ≡ zs → (more : List Pair) × (distinct (zs ++ ys) ≡ zs ++ more)
 grown_after zs [] once = ([], ap distinct (append-nil zs) ∙ once ∙ sym (append-nil zs))
 grown_after zs (y ∷ ys) once =
-    let same = first_grown zs y ys once in
-    let (more, is) = grown_after (grown zs y) ys (grown_once zs y once) in
-    elim (has_pair zs y) as (λ b. has_pair zs y ≡ b → (rest : List Pair) × (distinct (zs ++ y ∷ ys) ≡ zs ++ rest)) [
-      | true ↦ λ h. (more, same ∙ is ∙ ap (λ ps. ps ++ more) (grown_again zs y h))
-      | false ↦ λ h. (y ∷ more, same ∙ is ∙ ap (λ ps. ps ++ more) (grown_new zs y h) ∙ append_assoc zs (y ∷ []) more)
-    ] refl
+    search (rules, grown_after (grown zs y) ys (grown_once zs y once), first_grown, grown_once, grown_again, grown_new, append_assoc)
 
 -- only the distinct pairs of the front matter
 pub distinct-front : (xs ys : List Pair) → distinct (distinct xs ++ ys) ≡ distinct (xs ++ ys)
@@ -86,23 +74,14 @@ each_distinct P (p ∷ ps) h = (h.0, each_filtered P (λ q. not (same_pair p q))
 
 has-end : (ps : List Pair) (q p : Pair) → has_pair (ps ++ q ∷ []) p ≡ cond (same_pair q p) true (has_pair ps p)
 has-end [] q p = elim (same_pair q p) as (λ b. (b || false) ≡ cond b true false) [ true ↦ refl | false ↦ refl ]
-has-end (x ∷ ps) q p =
-    ap (λ b. same_pair x p || b) (has-end ps q p)
-    ∙ elim (same_pair q p) as (λ b. (same_pair x p || cond b true (has_pair ps p)) ≡ cond b true (same_pair x p || has_pair ps p))
-    [ true ↦ elim (same_pair x p) as (λ b. (b || true) ≡ true) [ true ↦ refl | false ↦ refl ] | false ↦ refl ]
+has-end (x ∷ ps) q p = search (rules, has-end ps q p)
 
 module _ (ps : List Pair) (q : Pair) (seen after : BTreeSet (ℕ × ℕ)) (agrees : AreSeen ps seen) (updates : Updates by_indices seen after (q.old.index, q.new.index) true) where
   seen_after : (p : Pair) → contains by_indices after (p.old.index, p.new.index) ≡ cond (same_pair q p) true (has_pair ps p)
-  seen_after p =
-      updates.0 (p.old.index, p.new.index) ∙ ap (λ b. cond b true (contains by_indices seen (p.old.index, p.new.index))) (equal_same q p)
-      ∙ ap (cond (same_pair q p) true) (agrees p)
+  seen_after p = search rules
 
   pub seen_new : AreSeen (ps ++ q ∷ []) after
   seen_new p = seen_after p ∙ sym (has-end ps q p)
 
   pub seen_again : has_pair ps q ≡ true → AreSeen ps after
-  seen_again there p = seen_after p ∙ of (same_pair q p) refl
-    where
-      of : (b : Bool) → same_pair q p ≡ b → cond (same_pair q p) true (has_pair ps p) ≡ has_pair ps p
-      of true h = rw h (sym (subst (λ x. has_pair ps x ≡ true) (same_pair-true q p h) there))
-      of false h = rw h refl
+  seen_again there p = search (rules, seen_after, same_pair-true)

@@ -1,23 +1,18 @@
 -- What each edge of a pair costs, and that each child has one.
-use Rattle.std.proofs.Common.{◌≡◌, ℕ, ◌+◌, ◌≤◌, List, [], ◌∷◌, map, flat_map, Option, Some, None, option_and_then, inl, inr, ⊎_elim, refl, ap, ◌∙◌, arith}
+use Rattle.std.proofs.Common.{◌≡◌, ℕ, ◌+◌, ◌≤◌, List, [], ◌∷◌, map, flat_map, Some, option_and_then, inl, inr, ⊎_elim, refl, ap, ◌∙◌, arith, rules}
 use Rattle.std.specs.List.{AllByRecursion}
 use Rattle.std.proofs.lemmas.Bool.{le-leb}
 use Rattle.pg_schema.specs.Shape.{Shape, FieldShape, field_at, fields}
 use Rattle.pg_schema.specs.ShapeRules.{IsShape}
 use Rattle.pg_dyn.specs.encoding.Encoding.{cap}
 use Rattle.pg_dyn.proofs.PublicLaws.{fields_are_found}
-use Rattle.pg_pairs.specs.declared.choices.choice.Choice.{Choice}
 use Rattle.pg_pairs.specs.declared.choices.choice.Pair.{Pair}
 use Rattle.pg_pairs.specs.declared.graph.edge.Edge.{Edge}
 use Rattle.pg_pairs.specs.bounds.Covering.{IsAmong, all_children, children, children_beside}
-use Rattle.pg_pairs.specs.witness.Carried.{choice_child}
-use Rattle.pg_pairs.specs.witness.CarriedChoices.{ChildThere}
-use Rattle.pg_pairs.specs.choices.Causes.{causes}
 use Rattle.pg_pairs.specs.laws.CauseLaws.{CausesAreOwn, PricesAreNear}
 use Rattle.pg_pairs.specs.choices.Costs.{one_item, with_length}
 use Rattle.pg_pairs.specs.laws.EdgeChildren.{among_append, append_left, append_right}
 use Rattle.pg_pairs.specs.graph.Edges.{child_cost, edge_price, edge_to, edges, within_cap}
-use Rattle.pg_pairs.specs.choices.Choices.{no_bounds}
 use Rattle.pg_pairs.proofs.lemmas.choices.Among.{among_each}
 use Rattle.pg_pairs.proofs.lemmas.graph.Grown.{each_distinct}
 use Rattle.pg_pairs.proofs.lemmas.bounds.LeastCosts.{each_length}
@@ -79,9 +74,4 @@ prices_are_near enum_view old new shape pair = (each_child_edge old new pair, ne
 
 pub causes_are_own : CausesAreOwn
 causes_are_own enum_view old new law shape_old shape_new pair c among =
-    let lengths = among_each (λ (x : Choice). (1 ≤ x.cost) × (x.cost ≤ cap)) c (causes enum_view old new pair) among (each_length enum_view old new no_bounds pair) in
-    (none (choice_child old new pair c) (child_costs_less enum_view old new no_bounds law shape_old shape_new pair c among), lengths.0, lengths.1)
-  where
-    none : (o : Option Pair) → ChildThere no_bounds o c.cost → o ≡ None
-    none None there = refl
-    none (Some p) there = absurd (let (x, at, less) = there in let no : None ≡ Some (Some x) = at in cc)
+    search (rules, among_each, each_length, child_costs_less)

@@ -1,5 +1,5 @@
 -- One step of the search for pairs: the children of the next one are added at the end.
-use Rattle.std.proofs.Common.{◌≡◌, ℕ, zero, suc, ◌+◌, ◌<◌, List, [], ◌∷◌, ◌++◌, flat_map, take, length, get_or, slice_get, true, false, ltb, lt-ltb, le-ltb, is_some, unwrap_or, option_map, Option, Some, None, inl, inr, ⊎_elim, refl, ap, sym, ◌∙◌, subst, append-nil, append_assoc, add-one, arith}
+use Rattle.std.proofs.Common.{◌≡◌, ℕ, zero, suc, ◌+◌, ◌<◌, List, [], ◌∷◌, ◌++◌, flat_map, take, length, get_or, slice_get, ltb, lt-ltb, le-ltb, is_some, unwrap_or, option_map, Option, Some, None, inl, inr, ⊎_elim, refl, ap, sym, ◌∙◌, subst, append-nil, append_assoc, add-one, arith, rules}
 use Rattle.std.specs.List.{AllByRecursion}
 use Rattle.std.proofs.lemmas.List.{take-append-le}
 use Rattle.std.proofs.lemmas.Option.{slice_get-get_or, slice_get_cases}
@@ -16,11 +16,8 @@ use Rattle.pg_pairs.proofs.lemmas.graph.Grown.{distinct-again, distinct-front, g
 
 -- what is read at an index, by what its reading says
 pub copied_at : {A B : Type 0} (now : B → A) (xs : List A) (i : ℕ) (r : Option B) → is_some r ≡ ltb i (length xs) → ((d : A) → unwrap_or (option_map now r) d ≡ get_or xs i d) → option_map now r ≡ slice_get xs i
-copied_at now xs i None there value =
-    ⊎_elim (λ here. absurd (let no : false ≡ true = there ∙ lt-ltb i (length xs) here.1 in cc)) (λ past. sym past.1) (slice_get_cases xs i).1
-copied_at now xs i (Some b) there value =
-    ⊎_elim (λ here. ap Some (value (now b)) ∙ sym (slice_get-get_or xs i (now b) here.1))
-    (λ past. absurd (let no : true ≡ false = there ∙ le-ltb i (length xs) past.0 in cc)) (slice_get_cases xs i).1
+copied_at now xs i None there value = search (rules, lt-ltb, slice_get_cases)
+copied_at now xs i (Some b) there value = search (rules, slice_get-get_or, le-ltb, slice_get_cases)
 
 inside : {A : Type 0} (xs : List A) (i : ℕ) (x : A) → slice_get xs i ≡ Some x → i < length xs
 inside [] i x h = absurd (cc)
@@ -108,29 +105,18 @@ module _ (kids : Pair → List Pair) (roots : List Pair) where
     led_among : (root : Pair) → IsAmong root roots → (p : Pair) → LeadsTo kids root p → IsAmong p ps
     led_among root first p itself = among_found root (append_left root roots (flat_map kids ps) first)
     led_among root first p (onwards above child leads among) =
-        among_each (λ y. IsAmong y ps) child (kids above) among
-        (among_each (λ q. AllByRecursion (λ y. IsAmong y ps) (kids q)) above ps (led_among root first above leads) all_closed)
+        search (rules, led_among root first above leads, among_each, all_closed)
 
     all_led : (p : Pair) → IsLedTo kids roots p → IsAmong p ps
     all_led p led = led_among led.root led.among p led.leads
 
   -- all are found
   pub all_found : (ps : List Pair) (at : ℕ) → take at ps ≡ ps → ps ≡ found_to at ps → AllByRecursion (IsLedTo kids roots) ps → IsReachedFrom kids roots ps
-  all_found ps at past so_far led =
-      let in_order : ps ≡ distinct (roots ++ flat_map kids ps) = so_far ∙ ap (λ qs. distinct (roots ++ flat_map kids qs)) past in
-      record {
-        in_order = in_order;
-        led_to = led;
-        all = all_led ps in_order;
-      }
+  all_found ps at past so_far led = search (rules, flat_map, all_led)
 
 -- one root leads to its own pairs alone
 one_leads : (kids : Pair → List Pair) (root p : Pair) → IsLedTo kids (root ∷ []) p → LeadsTo kids root p
 one_leads kids root p led = subst (λ r. LeadsTo kids r p) (⊎_elim (λ same. same) (λ none. absurd none) led.among) led.leads
 
 pub from_one_root : FromOneRoot
-from_one_root kids root ps reached = record {
-  in_order = reached.in_order;
-  led_to = each_weaker (IsLedTo kids (root ∷ [])) (LeadsTo kids root) (λ p led. one_leads kids root p led) ps reached.led_to;
-  all = λ p leads. reached.all p (record { root = root; among = inl refl; leads = leads });
-}
+from_one_root kids root ps reached = search (rules, each_weaker, one_leads)

@@ -1,5 +1,5 @@
 -- A content that crosses comes back: what the new type writes of it the old one reads.
-use Rattle.std.proofs.Common.{◌≡◌, ℕ, ◌<◌, ◌^◌, List, [], ◌∷◌, map, true, false, ◌&&◌, Option, Some, None, unwrap_or, ⊎_elim, refl, ap, sym, ◌∙◌, subst, arith}
+use Rattle.std.proofs.Common.{◌≡◌, ℕ, ◌<◌, ◌^◌, List, [], ◌∷◌, map, true, false, ◌&&◌, Option, Some, None, unwrap_or, refl, ap, sym, ◌∙◌, subst, arith, rules}
 use Rattle.std.specs.List.{AllByRecursion}
 use Rattle.std.specs.declared.cmp.Ordering.TheVariants.{Less}
 use Rattle.std.proofs.lemmas.Bool.{or_left}
@@ -131,8 +131,7 @@ module _ (old new : Shape) (number : ℕ) (e d : Element) (o r : Option ℕ) (cs
         (transferred (λ p. is_zero p.item ≡ false) cs hs same not_zero))
 
     may_be_zero : (p' : Presence) → p' ≡ p → (is_implicit p ≡ true → AllByRecursion (λ (c : Comparand). is_zero c.written ≡ false) cs) → AllByRecursion (λ (c : Comparand). MayBeZero p' c.written) again
-    may_be_zero presences.Implicit is not_zero =
-        not_zero_again (implicit_leafy e o (subst (λ x. PresenceFits x e o) (sym is) fits_old)) (not_zero (ap is_implicit (sym is)))
+    may_be_zero presences.Implicit is not_zero = search (rules, not_zero_again, implicit_leafy)
     may_be_zero presences.Explicit is not_zero = each_of_all (λ (c : Comparand). MayBeZero presences.Explicit c.written) (λ c. tt) again
     may_be_zero (presences.Repeated w) is not_zero = each_of_all (λ (c : Comparand). MayBeZero (presences.Repeated w) c.written) (λ c. tt) again
     may_be_zero (presences.Map k) is not_zero = each_of_all (λ (c : Comparand). MayBeZero (presences.Map k) c.written) (λ c. tt) again
@@ -179,15 +178,4 @@ module _ (old new : Shape) (number : ℕ) (e d : Element) (o r : Option ℕ) (cs
 
   -- either way
   pub across_back : (p q : Presence) → PresenceFits p e o → PresenceFits q d r → Crosses numbers (dec new) (of_old p) (of_new q) cs → (is_singular p && is_packed q) ≡ false → total (of_new q) again < 2 ^ 64 → Across (dec old) (of_new q) (of_old p) again
-  across_back p q fits_old fits_new crosses unpacked short =
-      ⊎_elim
-      (λ way. plain_back p q fits_old fits_new crosses.seen way unpacked)
-      (λ way.
-      subst (λ x. Across (dec old) (of_new q) (of_old x) again) (sym way.old_is)
-      (subst (λ y. Across (dec old) (of_new y) (of_old (presences.Map way.old_key)) again) (sym way.new_is)
-      (map_back way.old_key way.new_key (subst (λ x. PresenceFits x e o) way.old_is fits_old) (subst (λ y. PresenceFits y d r) way.new_is fits_new)
-      (subst (λ y. AllByRecursion (Seen numbers (dec new) (of_old (presences.Map way.old_key)) (of_new y)) cs) way.new_is (subst (λ x. AllByRecursion (Seen numbers (dec new) (of_old x) (of_new q)) cs) way.old_is crosses.seen))
-      way.keys_like way.keys_apart way.in_range
-      (subst (λ x. AllByRecursion (SeenEntry (of_old x) way.old_key way.new_key) cs) way.old_is way.entries)
-      way.rising (subst (λ y. total (of_new y) again < 2 ^ 64) way.new_is short))))
-      crosses.way
+  across_back p q fits_old fits_new crosses unpacked short = search (rules, plain_back, map_back)

@@ -1,5 +1,5 @@
 -- The children of a message: the new type keeps them, and they return.
-use Rattle.std.proofs.Common.{option_to_list, ◌≡◌, ℕ, ◌<◌, ◌≤◌, List, ◌++◌, length, Bool, true, false, ◌&&◌, nat_eq, if◌then◌else◌, Option, Some, is_some, refl, ap, ap₂, sym, ◌∙◌, subst, arith, eqb-true}
+use Rattle.std.proofs.Common.{option_to_list, ◌≡◌, ℕ, ◌<◌, ◌≤◌, List, ◌++◌, length, Bool, true, false, ◌&&◌, nat_eq, Option, Some, is_some, refl, ap, ap₂, sym, ◌∙◌, subst, eqb-true, rules}
 use Rattle.std.specs.List.{AllByRecursion}
 use Rattle.pg_schema.specs.declared.parts.field.TypeId.{TypeId}
 use Rattle.pg_schema.specs.declared.parts.field.Element.{Element}
@@ -22,8 +22,8 @@ use Rattle.pg_pairs.specs.bounds.Covering.{IsAmong, children, has_children}
 use Rattle.pg_pairs.specs.choices.Choices.{child_pair, no_bounds}
 use Rattle.pg_pairs.specs.graph.Reached.{LeadsTo, itself, onwards}
 use Rattle.pg_pairs.specs.home.Returns.{Returns, becomes_packed}
-use Rattle.pg_pairs.specs.home.Home.{home, home_message, homeward, message_eq}
-use Rattle.pg_pairs.specs.inner.Contents.{ChildBound, is_child_kept}
+use Rattle.pg_pairs.specs.home.Home.{home, home_message, homeward}
+use Rattle.pg_pairs.specs.inner.Contents.{ChildBound}
 use Rattle.pg_pairs.proofs.lemmas.bounds.Dearer.{CompatibleTo}
 use Rattle.pg_pairs.proofs.lemmas.home.HomeComparands.{home_comparands}
 use Rattle.pg_pairs.proofs.lemmas.home.Returned.{ComesBack}
@@ -92,10 +92,7 @@ module _ (old new : Shape) (shape_old : IsShape old) (shape_new : IsShape new) (
   IsBackComparand c = Fine c.written → ComesBack old new (elements.Message s) (elements.Message t) c
 
   of_the_type : (number : ℕ) (h : FieldShape) (u : TypeId) → number ≡ n → field_at (fields old a) number ≡ Some h → h.element ≡ elements.Message u → u ≡ s
-  of_the_type number h u same_number found_h is =
-      let same = one_found (fields old a) n h f (ap (field_at (fields old a)) (sym same_number) ∙ found_h) found in
-      let equal : elements.Message u ≡ elements.Message s = sym is ∙ ap (λ (x : FieldShape). x.element) same ∙ is_old in
-      cc
+  of_the_type number h u same_number found_h is = search (rules, one_found)
 
   old_type : (number : ℕ) → number ≡ n → child_type (fields old a) number ≡ s
   old_type number same_number = fields_are_found.3 (fields old a) number f s (ap (field_at (fields old a)) same_number ∙ found) is_old
@@ -110,36 +107,19 @@ module _ (old new : Shape) (shape_old : IsShape old) (shape_new : IsShape new) (
     has_encoding : length (enc old s child) ≤ cap
 
   own_child : (m : ℕ) → m ≤ cap → (number : ℕ) (h : FieldShape) (u : TypeId) (child : Message) → number ≡ n → field_at (fields old a) number ≡ Some h → h.element ≡ elements.Message u → IsMessage old u child → IsPlain child → length (enc old (child_type (fields old a) number) child) < m → IsOwn child
-  own_child m small number h u child same_number found_h is is_message is_plain shorter = record {
-    is_message = subst (λ u. IsMessage old u child) (of_the_type number h u same_number found_h is) is_message;
-    is_plain = is_plain;
-    has_encoding = subst (λ u. length (enc old u child) ≤ cap) (old_type number same_number) (omega arith);
-  }
+  own_child m small number h u child same_number found_h is is_message is_plain shorter =
+      search (rules, of_the_type, old_type)
 
   fine_child : (child : Message) (bytes : List ℕ) → bytes_of (records_in (fields old s) (encoded_parts old s child)) ++ bytes_of (unknown_of child) ≡ bytes → Fine (Bytes bytes) → CompatibleTo (length (enc old s child)) old new s t
   fine_child child bytes w fine = subst (λ y. CompatibleTo (length y) old new s t) (sym w ∙ bytes_are old s child) (fine bytes refl)
 
   kept_comparand : (child : Message) → IsOwn child → (number : ℕ) (key : Option Leaf) (leaf : Leaf) (expectation : Expected) → leaf ≡ Bytes (bytes_of (records_in (fields old s) (encoded_parts old s child)) ++ bytes_of (unknown_of child)) → expectation ≡ Kept (same_message numbers (fields old s) (fields new t) (expected numbers old new s t child) (unshared_bytes old s (fields new t) child)) → IsKeptComparand (record { number = number; key = key; written = leaf; expected = expectation })
   kept_comparand child own number key leaf expectation written expected_is fine bytes test w so broken =
-      let bytes_of_child : Bytes (bytes_of (records_in (fields old s) (encoded_parts old s child)) ++ bytes_of (unknown_of child)) ≡ Bytes bytes = sym written ∙ w in
-      let same_bytes : bytes_of (records_in (fields old s) (encoded_parts old s child)) ++ bytes_of (unknown_of child) ≡ bytes = cc in
-      let same_tests : Kept (same_message numbers (fields old s) (fields new t) (expected numbers old new s t child) (unshared_bytes old s (fields new t) child)) ≡ Kept test = sym expected_is ∙ so in
-      let test_is : same_message numbers (fields old s) (fields new t) (expected numbers old new s t child) (unshared_bytes old s (fields new t) child) ≡ test = cc in
-      let kept = is_kept_whole old new shape_old shape_new s t child own.is_message own.is_plain own.has_encoding (fine_child child bytes same_bytes (subst Fine w fine)) in
-      let yes : is_child_kept (dec new) t test bytes ≡ true = sym (ap₂ (λ p q. is_child_kept (dec new) t p q) test_is same_bytes) ∙ kept_is numbers old new s t child ∙ kept in
-      absurd (cc)
+      search (rules, is_kept_whole, fine_child, kept_is)
 
   back_comparand : Returns old new (pair_of s t) → (child : Message) → ComesHome old new child → IsOwn child → (number : ℕ) (key : Option Leaf) (leaf : Leaf) (test : Message → Bool) → leaf ≡ Bytes (bytes_of (records_in (fields old s) (encoded_parts old s child)) ++ bytes_of (unknown_of child)) → ((x : Message) → test x ≡ home_message (fields old s) (fields new t) (homeward old new s t child) x) → IsBackComparand (record { number = number; key = key; written = leaf; expected = Kept test })
-  back_comparand returns child comes own number key leaf test written test_is fine = (
-    enc old s child,
-    test,
-    written ∙ ap Bytes (bytes_are old s child),
-    refl,
-    (λ m read good.
-        let compatible = fine (enc old s child) (written ∙ ap Bytes (bytes_are old s child)) in
-        let (x, again, is_home) = comes s t compatible returns own.is_message own.is_plain own.has_encoding m read good.0 good.1 in
-        (x, again, test_is x ∙ sym (home_as_message old new s t child x) ∙ is_home)),
-  )
+  back_comparand returns child comes own number key leaf test written test_is fine =
+      search (rules, bytes_are, home_as_message)
 
   each_kept : (m : ℕ) → m ≤ cap → (v : Message) → IsMessage old a v → IsPlain v → ChildrenShorter old a m v → AllByRecursion (λ c. c.number ≡ n → IsKeptComparand c) (comparands numbers old new a b v)
   each_kept m small (ends unknown) h plain shorter = tt
@@ -159,33 +139,12 @@ module _ (old new : Shape) (shape_old : IsShape old) (shape_new : IsShape new) (
   each_back : Returns old new (pair_of s t) → (m : ℕ) → m ≤ cap → (v : Message) → IsMessage old a v → IsPlain v → ChildrenShorter old a m v → ChildrenComeHome old new v → AllByRecursion (λ c. c.number ≡ n → IsBackComparand c) (home_comparands old new a b v)
   each_back returns m small (ends unknown) h plain shorter come = tt
   each_back returns m small (holds number key leaf later) h plain shorter come =
-      ((λ same_number fine. absurd (no_leaf number h.0.field leaf same_number h.0.found h.1)), each_back returns m small later h.2 plain shorter come)
-    where
-      no_leaf : (number : ℕ) (x : FieldShape) (leaf : Leaf) → number ≡ n → field_at (fields old a) number ≡ Some x → LeafFits x leaf → ⊥
-      no_leaf number x leaf same_number found_x fits =
-          let same = one_found (fields old a) n x f (ap (field_at (fields old a)) (sym same_number) ∙ found_x) found in
-          message_leaf x.number x.presence x.element x.oneof leaf (ap (λ (y : FieldShape). y.element) same ∙ is_old) fits
-        where
-          message_leaf : (k : ℕ) (p : Presence) (e : Element) (o : Option ℕ) (leaf : Leaf) → e ≡ elements.Message s → LeafFits (record { number = k; presence = p; element = e; oneof = o }) leaf → ⊥
-          message_leaf k p (elements.Message u) o leaf is fits = fits
-          message_leaf k p (elements.Scalar u) o leaf is fits = absurd (cc)
-          message_leaf k p (elements.Enum u) o leaf is fits = absurd (cc)
-  each_back returns m small (nests number key child later) h plain shorter come = (
-    (λ same_number.
-        let own = own_child m small number h.0.field h.1 child same_number h.0.found h.2 h.3 plain.0 shorter.0 in
-        back_comparand returns child come.0 own number key _
-        (λ x. if is_some (field_at (fields new b) number) then home_message (fields old (child_type (fields old a) number)) (fields new (child_type (fields new b) number)) (homeward old new (child_type (fields old a) number) (child_type (fields new b) number) child) x else message_eq child x)
-        (ap (λ u. Bytes (bytes_of (records_in (fields old u) (encoded_parts old u child)) ++ bytes_of (unknown_of child))) (old_type number same_number))
-        (λ x.
-        ap (λ c. if c then home_message (fields old (child_type (fields old a) number)) (fields new (child_type (fields new b) number)) (homeward old new (child_type (fields old a) number) (child_type (fields new b) number) child) x else message_eq child x) (beside_there number same_number)
-        ∙ ap₂ (λ u w'. home_message (fields old u) (fields new w') (homeward old new u w' child) x) (old_type number same_number) (new_type number same_number))),
-    each_back returns m small later h.4 plain.1 shorter.1 come.1,
-  )
+      search (rules, each_back returns m small later h.2 plain shorter come, one_found)
+  each_back returns m small (nests number key child later) h plain shorter come =
+      search (rules, each_back returns m small later h.4 plain.1 shorter.1 come.1, own_child, back_comparand, is_some, old_type, beside_there, new_type)
 
   at_number : (P : Comparand → Type 0) (cs : List Comparand) → AllByRecursion (λ (c : Comparand). c.number ≡ n → P c) cs → AllByRecursion P (comparands_at n cs)
-  at_number P cs all =
-      each_weaker (λ c. (c.number ≡ n → P c) × (nat_eq c.number n ≡ true)) P (λ c k. k.0 (eqb-true c.number n k.1)) (comparands_at n cs)
-      (each-filter (λ c. c.number ≡ n → P c) (λ c. nat_eq c.number n) cs all)
+  at_number P cs all = search (rules, each_weaker, eqb-true, each-filter)
 
   pub kept_comparands : (m : ℕ) → m ≤ cap → (v : Message) → IsMessage old a v → IsPlain v → ChildrenShorter old a m v → AllByRecursion (λ c. Fine c.written) (comparands_at n (comparands numbers old new a b v)) → AllByRecursion (ChildBound no_bounds (dec new) (elements.Message s) (elements.Message t)) (comparands_at n (comparands numbers old new a b v))
   kept_comparands m small v h plain shorter fine =
@@ -206,19 +165,10 @@ module _ (old new : Shape) (a b : TypeId) (f : FieldShape) (n : ℕ) (found : fi
 
   pub each_leaf : (d : Element) → ((s : TypeId) → f.element ≡ elements.Message s → ⊥) → (v : Message) → IsMessage old a v → AllByRecursion (λ c. c.number ≡ n → ComesBack old new f.element d c) (home_comparands old new a b v)
   each_leaf d leafy (ends unknown) h = tt
-  each_leaf d leafy (holds number key leaf later) h = (
-    (λ same_number.
-        let same = one_found (fields old a) n h.0.field f (ap (field_at (fields old a)) (sym same_number) ∙ h.0.found) found in
-        subst (λ x. ComesBack old new x d _) (ap (λ (y : FieldShape). y.element) same)
-        (leaf_back d h.0.field.number h.0.field.presence h.0.field.element h.0.field.oneof (record { number = number; key = key; written = leaf; expected = Alike leaf }) leaf refl refl h.1)),
-    each_leaf d leafy later h.2,
-  )
-  each_leaf d leafy (nests number key child later) h = (
-    (λ same_number.
-        let same = one_found (fields old a) n h.0.field f (ap (field_at (fields old a)) (sym same_number) ∙ h.0.found) found in
-        absurd (leafy h.1 (sym (ap (λ (y : FieldShape). y.element) same) ∙ h.2))),
-    each_leaf d leafy later h.4,
-  )
+  each_leaf d leafy (holds number key leaf later) h =
+      search (rules, each_leaf d leafy later h.2, one_found, leaf_back)
+  each_leaf d leafy (nests number key child later) h =
+      search (rules, each_leaf d leafy later h.4, one_found)
 
   pub leaf_comparands : (d : Element) → ((s : TypeId) → f.element ≡ elements.Message s → ⊥) → (v : Message) → IsMessage old a v → AllByRecursion (ComesBack old new f.element d) (comparands_at n (home_comparands old new a b v))
   leaf_comparands d leafy v h =

@@ -1,5 +1,5 @@
 -- One field of what is read back: the old type's reader makes of the records of its number what the field should show.
-use Rattle.std.proofs.Common.{◌≡◌, ℕ, List, [], ◌∷◌, map, filter, Bool, true, not, ◌&&◌, ◌||◌, Option, Some, refl, ap, sym, ◌∙◌, subst}
+use Rattle.std.proofs.Common.{◌≡◌, ℕ, List, [], ◌∷◌, map, filter, Bool, true, not, ◌&&◌, Option, Some, refl, ap, sym, ◌∙◌, rules}
 use Rattle.std.specs.List.{AllByRecursion}
 use Rattle.std.proofs.lemmas.Bool.{and_from, and_parts, and_right, or_right}
 use lib.Pointwise.{pointwise}
@@ -9,10 +9,9 @@ use Rattle.pg_schema.specs.declared.parts.field.Presence.TheVariants as presence
 use Rattle.pg_schema.specs.Shape.{Shape, FieldShape}
 use Rattle.pg_wire.specs.Records.{WireRecord}
 use Rattle.pg_dyn.specs.message.Message.{Item, Plain, Msg, Part, is_of, is_zero}
-use Rattle.pg_dyn.specs.reading.Content.{takes}
 use Rattle.pg_dyn.specs.encoding.Writing.{field_records}
-use Rattle.pg_dyn.specs.reading.Decoding.{Reader, is_readable}
-use Rattle.pg_dyn.specs.views.Comparison.{Expected, Alike, Kept, Comparand, numbers, writes, expects, is_zero_expected, is_zero_item, same_key, matches, shown}
+use Rattle.pg_dyn.specs.reading.Decoding.{Reader}
+use Rattle.pg_dyn.specs.views.Comparison.{Expected, Alike, Kept, Comparand, numbers, writes, expects, is_zero_expected, is_zero_item, matches, shown}
 use Rattle.pg_dyn.specs.laws.ByComparands.{field_read, all_field_readable}
 use Rattle.pg_dyn.proofs.Lists.{each_weaker, filter_all, filter-filter_weaker, list_all_each, map_map}
 use Rattle.pg_pairs.specs.home.Home.{drops_zero, home_content}
@@ -36,23 +35,17 @@ pub record FieldComes (child : Reader) (f : FieldShape) (beside : Option FieldSh
 
 -- What is shown of a number's parts is what is shown of all.
 shown-filter : {A : Type 0} (is_zero_one : A → Bool) (hidden : Bool) (n : ℕ) (ps : List (Part A)) → shown is_zero_one hidden n (filter (is_of n) ps) ≡ shown is_zero_one hidden n ps
-shown-filter is_zero_one hidden n ps =
-    filter-filter_weaker (is_of n) (λ p. is_of n p && not (hidden && is_zero_one p.item)) (λ p h. (and_parts (is_of n p) (not (hidden && is_zero_one p.item)) h).0) ps
+shown-filter is_zero_one hidden n ps = search (rules, filter-filter_weaker, and_parts)
 
 pub home_parts : (f : FieldShape) (beside : Option FieldShape) (homing : List (Part Expected)) (ps : List (Part Item)) → home_content f beside homing (filter (is_of f.number) ps) ≡ home_content f beside homing ps
 home_parts f beside homing ps = rw (shown-filter is_zero_item (drops_zero f beside) f.number ps)
 
 pub home_of_own : (f : FieldShape) (beside : Option FieldShape) (homing own : List (Part Expected)) (ps : List (Part Item)) → filter (is_of f.number) homing ≡ own → home_content f beside own ps ≡ true → home_content f beside homing ps ≡ true
-home_of_own f beside homing own ps is h =
-    ap (λ xs. pointwise (λ (p : Part Expected) (q : Part Item). same_key p.key q.key && matches numbers f f p.item q.item) xs (shown is_zero_item (drops_zero f beside) f.number ps))
-    (sym (shown-filter is_zero_expected (drops_zero f beside) f.number homing) ∙ ap (shown is_zero_expected (drops_zero f beside) f.number) is)
-    ∙ h
+home_of_own f beside homing own ps is h = search (rules, pointwise, shown-filter)
 
 -- an item that is met by numbers is so as between a type and itself
 meets_own : (f g h : FieldShape) (expected : Expected) (item : Item) → matches numbers g h expected item ≡ true → matches numbers f f expected item ≡ true
-meets_own f g h (Alike a) (Plain b) met =
-    let same : a ≡ b = alike_equal numbers g.element h.element a b met in
-    subst (λ x. matches numbers f f (Alike a) (Plain x) ≡ true) same (alike_self f.element f.element a)
+meets_own f g h (Alike a) (Plain b) met = search (rules, alike_equal, alike_self)
 meets_own f g h (Alike a) (Msg m) met = absurd (cc)
 meets_own f g h (Kept test) (Plain b) met = absurd (cc)
 meets_own f g h (Kept test) (Msg m) met = met
@@ -60,22 +53,15 @@ meets_own f g h (Kept test) (Msg m) met = met
 -- comparands that are read right return
 seen_home : (child : Reader) (f g : FieldShape) (beside : Option FieldShape) (cs : List Comparand) → AllByRecursion (Seen numbers child g f) cs → home_content f beside (map expects cs) (map (reads child f.element) cs) ≡ true
 seen_home child f g beside cs h =
-    filtered_pointwise (λ (p : Part Expected) (q : Part Item). same_key p.key q.key && matches numbers f f p.item q.item)
-    (λ p. is_of f.number p && not (drops_zero f beside && is_zero_expected p.item)) (λ p. is_of f.number p && not (drops_zero f beside && is_zero_item p.item)) expects (reads child f.element) cs
-    (each_weaker (Seen numbers child g f) _
-    (λ c s. (rw s.zero_same, and_from (same_key c.key c.key) (matches numbers f f c.expected (item_read child f.element c.written)) (same_key_refl c.key) (meets_own f g f c.expected (item_read child f.element c.written) s.met)))
-    cs h)
+    search (rules, filtered_pointwise, reads, each_weaker, and_from, item_read, same_key_refl, meets_own)
 
 -- What crosses is read.
 
 pub across_readable : (child : Reader) (f g : FieldShape) (cs : List Comparand) → Across child g f cs → all_field_readable child f (field_records g (map writes cs)) ≡ true
-across_readable child f g cs across =
-    list_all_each (λ r. not (takes f r) || is_readable child f r) (field_records g (map writes cs))
-    (each_weaker (λ r. is_readable child f r ≡ true) _ (λ r h. or_right (not (takes f r)) _ h) (field_records g (map writes cs)) across.readable)
+across_readable child f g cs across = search (rules, list_all_each, each_weaker, or_right)
 
 pub across_read : (child : Reader) (f g : FieldShape) (cs : List Comparand) → AllByRecursion (Seen numbers child g f) cs → Across child g f cs → field_read child f (field_records g (map writes cs)) ≡ Some (map (reads child f.element) cs)
-across_read child f g cs seen across =
-    rw (filter_all (takes f) (field_records g (map writes cs)) across.taken, across.content_is) (parts_read numbers child g f cs seen)
+across_read child f g cs seen across = search (rules, filter_all, parts_read)
 
 -- a content that crosses and comes back
 pub crossing_comes : (child : Reader) (new : Shape) (f g : FieldShape) (beside : Option FieldShape) (homing : List (Part Expected)) (d : Element) (hs : List Comparand) → filter (is_of f.number) homing ≡ map expects hs → AllByRecursion (Seen numbers child g f) (map (returned new d) hs) → Across child g f (map (returned new d) hs) → FieldComes child f beside homing (field_records g (map writes (map (returned new d) hs)))

@@ -1,5 +1,5 @@
 -- Records of which those of each number are known are read as a message, if each field reads its own.
-use Rattle.std.proofs.Common.{◌≡◌, List, [], ◌∷◌, map, filter, Bool, true, false, not, ◌&&◌, ◌||◌, Option, Some, option_and_then, ◌⊎◌, ⊎_elim, refl, ap, sym, ◌∙◌, subst}
+use Rattle.std.proofs.Common.{◌≡◌, List, [], ◌∷◌, map, filter, Bool, true, false, not, ◌&&◌, ◌||◌, Option, Some, option_and_then, ◌⊎◌, ⊎_elim, refl, ap, sym, ◌∙◌, subst, rules}
 use Rattle.std.specs.List.{AllByRecursion, list_all, list_any}
 use Rattle.std.proofs.lemmas.Bool.{and_right, cases_Bool, false_from_ne_true}
 use Rattle.pg_schema.specs.Shape.{FieldShape, field_at}
@@ -69,12 +69,7 @@ module _ (child : Reader) (fs : List FieldShape) (rising : Rising fs) (rs : List
 
     pub is_read : read_records child fs rs ≡ Some the_message
     unfolding the_message
-    is_read =
-        rw (
-          all_read,
-          all_some-map (field_parts child fs rs) made fs
-              (each_weaker (λ f. field_at fs f.number ≡ Some f) _ (λ f found. parts_are f found ∙ read f found) fs (fields_are_found.2 fs rising)),
-        )
+    is_read = search (rules, all_read, all_some-map, each_weaker, parts_are, fields_are_found)
 
     pub parts_made : (f : FieldShape) → field_at fs f.number ≡ Some f → filter (is_of f.number) (parts the_message) ≡ made f
     parts_made f found =

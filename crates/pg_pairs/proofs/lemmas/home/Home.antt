@@ -1,5 +1,5 @@
 -- Messages return: by induction over the message.
-use Rattle.std.proofs.Common.{◌≡◌, ℕ, length, true, Some, sym, ◌∙◌, true≢false}
+use Rattle.std.proofs.Common.{◌≡◌, ℕ, true, Some, true≢false, rules}
 use Rattle.std.proofs.lemmas.Bool.{false_from_ne_true}
 use Rattle.pg_schema.specs.declared.parts.field.TypeId.{TypeId}
 use Rattle.pg_schema.specs.Shape.{Shape}
@@ -8,7 +8,7 @@ use Rattle.pg_dyn.specs.message.Message.{Message, ends, holds, nests}
 use Rattle.pg_dyn.specs.encoding.Encoding.{enc}
 use Rattle.pg_dyn.specs.reading.Decoding.{dec}
 use Rattle.pg_dyn.specs.views.Comparison.{View}
-use Rattle.pg_dyn.specs.views.Breaking.{Compatible, is_kept}
+use Rattle.pg_dyn.specs.views.Breaking.{Compatible}
 use Rattle.pg_pairs.specs.home.Home.{home, comes_home}
 use Rattle.pg_dyn.specs.laws.Laws.{ReadsAgain}
 use Rattle.pg_dyn.specs.views.ViewNames.{KeptByNumber}
@@ -20,21 +20,7 @@ use Rattle.pg_pairs.proofs.lemmas.home.HomeMessage.{comes}
 module _ (reads_again : ReadsAgain) (old new : Shape) (shape_old : IsShape old) (shape_new : IsShape new) where
   from_children : (v : Message) → ChildrenComeHome old new v → ComesHome old new v
   from_children v come a b fine returns is plain small w read is_new small_new =
-      comes old new a b v w
-      (record {
-        reads_again = reads_again;
-        shape_old = shape_old;
-        shape_new = shape_new;
-        is_message = is;
-        is_plain = plain;
-        has_encoding = small;
-        fine = fine;
-        returns = returns;
-        come = come;
-        is_read = read;
-        is_new = is_new;
-        new_encoding = small_new;
-      })
+      search (rules, comes)
 
   each_child : (v : Message) → ChildrenComeHome old new v
   each_child (ends unknown) = tt
@@ -51,15 +37,8 @@ home_from old new a b v w x read again is_home = rw (read, again) is_home
 -- What is compatible under a view is so by number, up to any length.
 by_number : KeptByNumber → (view : View) (old new : Shape) (a b : TypeId) (n : ℕ) → Compatible view old new a b → CompatibleTo n old new a b
 by_number kept_by_number view old new a b n compatible u breaks =
-    absurd
-    (compatible u (record {
-      is_message = breaks.is_message;
-      is_plain = breaks.is_plain;
-      has_encoding = breaks.has_encoding;
-      not_kept = false_from_ne_true (is_kept view old new a b u) (λ kept. true≢false (sym (kept_by_number view old new a b u kept) ∙ breaks.not_kept));
-    }))
+    search (rules, false_from_ne_true, true≢false)
 
 pub messages_come_home : ReadsAgain → KeptByNumber → MessagesComeHome
 messages_come_home reads_again kept_by_number view old new pair shape_old shape_new compatible returns v is plain small w read is_new small_new =
-    let (x, again, is_home) = every_message reads_again old new shape_old shape_new v pair.old pair.new (by_number kept_by_number view old new pair.old pair.new (length (enc old pair.old v)) compatible) returns is plain small w read is_new small_new in
-    home_from old new pair.old pair.new v w x read again is_home
+    search (rules, every_message, by_number, home_from)

@@ -1,5 +1,5 @@
 -- One message, whose children return.
-use Rattle.std.proofs.Common.{◌≡◌, ℕ, ◌^◌, ◌<◌, ◌≤◌, List, [], ◌∷◌, ◌++◌, length, map, filter, Bool, true, false, not, cond, nat_eq, Option, Some, None, unwrap_or, ◌⊎◌, inl, inr, ⊎_elim, refl, ap, ap₂, sym, ◌∙◌, subst, arith, append-nil, length-append, eqb-true}
+use Rattle.std.proofs.Common.{◌≡◌, ℕ, ◌^◌, ◌<◌, ◌≤◌, List, [], ◌∷◌, ◌++◌, length, map, filter, Bool, true, false, not, nat_eq, Option, Some, None, unwrap_or, ◌⊎◌, inl, inr, ⊎_elim, refl, ap, ap₂, sym, ◌∙◌, subst, arith, append-nil, length-append, eqb-true, rules}
 use Rattle.std.specs.List.{AllByRecursion}
 use Rattle.pg_schema.specs.declared.parts.field.TypeId.{TypeId}
 use Rattle.pg_schema.specs.declared.parts.field.Element.{Element}
@@ -9,12 +9,12 @@ use Rattle.pg_schema.specs.declared.parts.field.Presence.TheVariants as presence
 use Rattle.pg_schema.specs.Shape.{Shape, FieldShape, fields, field_at}
 use Rattle.pg_schema.specs.ShapeRules.{PresenceFits}
 use Rattle.pg_wire.specs.Records.{WireRecord}
-use Rattle.pg_dyn.specs.message.Message.{Leaf, Bytes, Item, Message, Part, is_of, is_zero, parts, unknown_of}
+use Rattle.pg_dyn.specs.message.Message.{Leaf, Bytes, Item, Message, Part, is_of, is_zero, parts}
 use Rattle.pg_dyn.specs.reading.Content.{takes, is_unknown}
 use Rattle.pg_dyn.specs.word.Coding.{form, InRange}
 use Rattle.pg_dyn.specs.encoding.Writing.{item_record, bytes_of, field_records, records_in}
 use Rattle.pg_dyn.specs.encoding.Encoding.{child_type, element_type, enc, encoded_parts}
-use Rattle.pg_dyn.specs.reading.Decoding.{dec, read_records}
+use Rattle.pg_dyn.specs.reading.Decoding.{dec}
 use Rattle.pg_dyn.specs.laws.OwnParts.{ChildrenShorter}
 use Rattle.pg_dyn.specs.views.Comparison.{numbers, Alike, Expected, Comparand, comparands, writes, expects, is_zero_expected}
 use Rattle.pg_dyn.specs.laws.ByComparands.{comparands_at, field_read, all_field_readable}
@@ -51,9 +51,7 @@ use Rattle.pg_pairs.proofs.lemmas.home.RelayedRecords.{Goes, again, again_at, at
 -- Comparands that write what one does.
 one_comparand : (c : Comparand) (hs : List Comparand) → map writes hs ≡ map writes (c ∷ []) → (h : Comparand) × (hs ≡ h ∷ []) × (h.written ≡ c.written)
 one_comparand c [] same = absurd (cc)
-one_comparand c (h ∷ []) same =
-    let first : writes h ≡ writes c = cc in
-    (h, refl, ap (λ (p : Part Leaf). p.item) first)
+one_comparand c (h ∷ []) same = search rules
 one_comparand c (h ∷ h' ∷ hs) same = absurd (cc)
 
 leafy_expected : (old new : Shape) (e d : Element) → IsLeafy e → (h : Comparand) → ComesBack old new e d h → h.expected ≡ Alike h.written
@@ -67,11 +65,7 @@ not_message (elements.Enum s) leafy t is = absurd (cc)
 not_message (elements.Message s) leafy t is = leafy
 
 one_or_none : (test : WireRecord → Bool) (r : WireRecord) → (filter test (r ∷ []) ≡ r ∷ []) ⊎ (filter test (r ∷ []) ≡ [])
-one_or_none test r = of (test r) refl
-  where
-    of : (c : Bool) → test r ≡ c → (filter test (r ∷ []) ≡ r ∷ []) ⊎ (filter test (r ∷ []) ≡ [])
-    of true is = inl (rw is refl)
-    of false is = inr (rw is refl)
+one_or_none test r = search rules
 
 -- messages, or not
 message_or : (e : Element) → ((s : TypeId) × (e ≡ elements.Message s)) ⊎ ((s : TypeId) → e ≡ elements.Message s → ⊥)
@@ -82,18 +76,12 @@ message_or (elements.Enum s) = inr (λ t is. absurd (cc))
 -- fewer records, fewer bytes
 bytes_filtered : (test : WireRecord → Bool) (rs : List WireRecord) → length (bytes_of (filter test rs)) ≤ length (bytes_of rs)
 bytes_filtered test [] = omega arith
-bytes_filtered test (r ∷ rs) = of (test r) (bytes_filtered test rs)
-  where
-    of : (c : Bool) → length (bytes_of (filter test rs)) ≤ length (bytes_of rs) → length (bytes_of (cond c (r ∷ filter test rs) (filter test rs))) ≤ length (bytes_of (r ∷ rs))
-    of true rest = let kept = length-append r.bytes (bytes_of (filter test rs)) in let all = length-append r.bytes (bytes_of rs) in omega arith
-    of false rest = let all = length-append r.bytes (bytes_of rs) in omega arith
+bytes_filtered test (r ∷ rs) = search (rules, bytes_filtered test rs, length-append)
 
 -- the records of a message's own fields are no longer than its encoding
 known_within : (shape : Shape) (type : TypeId) (m : Message) → length (bytes_of (records_in (fields shape type) (encoded_parts shape type m))) ≤ length (enc shape type m)
 unfolding enc
-known_within shape type m =
-    let all = length-append (bytes_of (records_in (fields shape type) (encoded_parts shape type m))) (bytes_of (unknown_of m)) in
-    omega arith
+known_within shape type m = search (rules, length-append)
 
 module _ (old new : Shape) (a b : TypeId) (v w : Message) (goes : Goes old new a b v w) where
   abbrev fs : List FieldShape
@@ -194,10 +182,7 @@ module _ (old new : Shape) (a b : TypeId) (v w : Message) (goes : Goes old new a
     plain_children (presences.Repeated p') (presences.Repeated w) h k = refl
 
     way_children : Crosses numbers (dec new) f g own_comparands → has_children f.presence q ≡ true
-    way_children crosses =
-        ⊎_elim (λ way. plain_children f.presence q way.no_map_old way.no_map_new)
-        (λ way. ap₂ has_children way.old_is way.new_is ∙ way.keys_like)
-        crosses.way
+    way_children crosses = search (rules, plain_children)
 
     child_comparands : (s t : TypeId) → f.element ≡ elements.Message s → d ≡ elements.Message t → has_children f.presence q ≡ true → AllByRecursion (ComesBack old new (elements.Message s) (elements.Message t)) hs
     child_comparands s t is_old is_new has =
@@ -252,11 +237,7 @@ module _ (old new : Shape) (a b : TypeId) (v w : Message) (goes : Goes old new a
           ∙ append-nil (field_records g (map writes (map (returned new d) hs)))
 
       short_again : total g (map (returned new d) hs) < 2 ^ 64
-      short_again =
-          let within = bytes_filtered (of_number f.number) (records_in gs (encoded_parts new b w)) in
-          let fits = known_within new b w in let short = goes.new_encoding in
-          let is_whole : length (bytes_of (filter (of_number f.number) (records_in gs (encoded_parts new b w)))) ≡ total g (map (returned new d) hs) = ap (λ rs. length (bytes_of rs)) known_records in
-          omega arith
+      short_again = search (rules, bytes_filtered, of_number, known_within, returned, known_records)
 
       pub crossing_home : FieldComes (dec old) f (Some g) homing (at_number old new a b v w goes f)
       crossing_home =
@@ -328,14 +309,7 @@ module _ (old new : Shape) (a b : TypeId) (v w : Message) (goes : Goes old new a
     -- no content, a hidden one, or one that crosses
     pub beside_comes : FieldComes (dec old) f (Some g) homing (at_number old new a b v w goes f)
     beside_comes =
-        ⊎_elim
-        (λ none. subst (FieldComes (dec old) f (Some g) homing) (sym (none_left old new a b v w goes f found none)) (nothing_comes (dec old) f (Some g) homing (none_expected old new a b v w goes f none)))
-        (λ some.
-        ⊎_elim
-        (λ hides. hidden_home hides.comparand hides.explicit hides.implicit hides.leafy hides.one hides.zero)
-        (λ crosses. crossing_home crosses)
-        some)
-        fate
+        search (rules, none_left, nothing_comes, none_expected, hidden_home, crossing_home, fate)
 
   -- Any field of the old type.
   pub field_comes : (f : FieldShape) → field_at fs f.number ≡ Some f → FieldComes (dec old) f (field_at gs f.number) homing (at_number old new a b v w goes f)
@@ -366,8 +340,7 @@ module _ (old new : Shape) (a b : TypeId) (v w : Message) (goes : Goes old new a
 
   is_read_home : dec old a (enc new b w) ≡ Some come_home
   is_read_home =
-      let step : dec old a (enc new b w) ≡ read_records (dec old) fs (again old new a b v w goes) = rw (decoding_is old a (enc new b w), (spelled_new old new a b v w goes)) refl in
-      step ∙ is_read (dec old) fs (fields_are_found.0 old a goes.shape_old).rising (again old new a b v w goes) (at_number old new a b v w goes) (λ f found. refl) (old_apart old new a b v w goes) made readable read_made
+      search (rules, again, decoding_is, spelled_new, is_read, fields_are_found, at_number, old_apart, readable, read_made)
 
   each_home : (f : FieldShape) → field_at fs f.number ≡ Some f → home_content f (field_at gs f.number) homing (parts come_home) ≡ true
   each_home f found =
@@ -377,9 +350,7 @@ module _ (old new : Shape) (a b : TypeId) (v w : Message) (goes : Goes old new a
       sym (home_parts f (field_at gs f.number) homing (parts come_home)) ∙ ap (home_content f (field_at gs f.number) homing) (parts_of ∙ is_made) ∙ comes.is_home
 
   all_home : home_message fs gs homing come_home ≡ true
-  all_home =
-      list_all_each (λ f. home_content f (field_at gs f.number) homing (parts come_home)) fs
-      (each_weaker (λ f. field_at fs f.number ≡ Some f) (λ f. home_content f (field_at gs f.number) homing (parts come_home) ≡ true) each_home fs (fields_are_found.2 fs (fields_are_found.0 old a goes.shape_old).rising))
+  all_home = search (rules, list_all_each, each_weaker, each_home, fields_are_found)
 
   pub comes : Comes old new a b v w
   comes = (come_home, is_read_home, home_as_message old new a b v come_home ∙ all_home)

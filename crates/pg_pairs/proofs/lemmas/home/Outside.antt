@@ -1,15 +1,14 @@
 -- A field that the new type lacks is read back as it was.
-use Rattle.std.proofs.Common.{◌≡◌, ℕ, List, ◌∷◌, Bool, true, false, nat_eq, ◌&&◌, if◌then◌else◌, None, is_some, refl, ap, sym, ◌∙◌, eqb-true, eq-eqb}
+use Rattle.std.proofs.Common.{◌≡◌, ℕ, List, ◌∷◌, Bool, true, false, nat_eq, ◌&&◌, None, is_some, refl, ap, ◌∙◌, eqb-true, eq-eqb, rules}
 use Rattle.std.specs.Str.{bytes_eq}
 use Rattle.std.proofs.lemmas.Bool.{and_from}
 use lib.Pointwise.{pointwise}
 use Rattle.pg_schema.specs.declared.parts.field.TypeId.{TypeId}
 use Rattle.pg_schema.specs.Shape.{Shape, FieldShape, fields, field_at}
-use Rattle.pg_dyn.specs.message.Message.{Bytes, Item, Plain, Msg, Message, ends, holds, nests, Part, parts}
+use Rattle.pg_dyn.specs.message.Message.{Bytes, Item, Message, ends, holds, nests, Part, parts}
 use Rattle.pg_dyn.specs.encoding.Writing.{bytes_of}
-use Rattle.pg_dyn.specs.encoding.Encoding.{child_type}
-use Rattle.pg_dyn.specs.views.Comparison.{Expected, Alike, Kept, numbers, is_zero_expected, is_zero_item, same_key, matches, shown}
-use Rattle.pg_pairs.specs.home.Home.{home_content, home_message, homeward, message_eq}
+use Rattle.pg_dyn.specs.views.Comparison.{Expected, numbers, is_zero_expected, is_zero_item, same_key, matches, shown}
+use Rattle.pg_pairs.specs.home.Home.{home_content, homeward, message_eq}
 use Rattle.pg_dyn.proofs.PublicLaws.{equal_leaves}
 use Rattle.pg_pairs.proofs.lemmas.home.Returned.{alike_self}
 use Rattle.pg_pairs.proofs.lemmas.bounds.Across.{same_key_refl}
@@ -32,15 +31,7 @@ module _ (old new : Shape) (a b : TypeId) (f : FieldShape) (lacks : field_at (fi
 
   -- a part of the field, or of another
   one_more : (x : Part Expected) (y : Part Item) (xs : List (Part Expected)) (ys : List (Part Item)) → x.number ≡ y.number → (x.number ≡ f.number → R x y ≡ true) → pointwise R (shown is_zero_expected false f.number xs) (shown is_zero_item false f.number ys) ≡ true → pointwise R (shown is_zero_expected false f.number (x ∷ xs)) (shown is_zero_item false f.number (y ∷ ys)) ≡ true
-  one_more x y xs ys same related rest = of (nat_eq x.number f.number) refl
-    where
-      of : (c : Bool) → nat_eq x.number f.number ≡ c → pointwise R (shown is_zero_expected false f.number (x ∷ xs)) (shown is_zero_item false f.number (y ∷ ys)) ≡ true
-      of true is =
-          let other : nat_eq y.number f.number ≡ true = ap (λ n. nat_eq n f.number) (sym same) ∙ is in
-          rw (is, other) (and_from (R x y) (pointwise R (shown is_zero_expected false f.number xs) (shown is_zero_item false f.number ys)) (related (eqb-true x.number f.number is)) rest)
-      of false is =
-          let other : nat_eq y.number f.number ≡ false = ap (λ n. nat_eq n f.number) (sym same) ∙ is in
-          rw (is, other) rest
+  one_more x y xs ys same related rest = search (rules, pointwise, and_from, eqb-true)
 
   -- the test of a child there is whether the message is equal
   lacking : (number : ℕ) → number ≡ f.number → is_some (field_at (fields new b) number) ≡ false
@@ -49,15 +40,9 @@ module _ (old new : Shape) (a b : TypeId) (f : FieldShape) (lacks : field_at (fi
   all_shown : (v : Message) → pointwise R (shown is_zero_expected false f.number (homeward old new a b v)) (shown is_zero_item false f.number (parts v)) ≡ true
   all_shown (ends unknown) = refl
   all_shown (holds number key leaf later) =
-      one_more (record { number = number; key = key; item = Alike leaf }) (record { number = number; key = key; item = Plain leaf }) (homeward old new a b later) (parts later) refl
-      (λ same. and_from (same_key key key) (matches numbers f f (Alike leaf) (Plain leaf)) (same_key_refl key) (alike_self f.element f.element leaf))
-      (all_shown later)
+      search (rules, all_shown later, one_more, and_from, same_key_refl, alike_self)
   all_shown (nests number key child later) =
-      one_more (record { number = number; key = key; item = Kept (λ x. if is_some (field_at (fields new b) number) then home_message (fields old (child_type (fields old a) number)) (fields new (child_type (fields new b) number)) (homeward old new (child_type (fields old a) number) (child_type (fields new b) number) child) x else message_eq child x) }) (record { number = number; key = key; item = Msg child }) (homeward old new a b later) (parts later) refl
-      (λ same.
-      and_from (same_key key key) (if is_some (field_at (fields new b) number) then home_message (fields old (child_type (fields old a) number)) (fields new (child_type (fields new b) number)) (homeward old new (child_type (fields old a) number) (child_type (fields new b) number) child) child else message_eq child child) (same_key_refl key)
-      (ap (λ c. if c then home_message (fields old (child_type (fields old a) number)) (fields new (child_type (fields new b) number)) (homeward old new (child_type (fields old a) number) (child_type (fields new b) number) child) child else message_eq child child) (lacking number same) ∙ message_self child))
-      (all_shown later)
+      search (rules, all_shown later, one_more, is_some, and_from, same_key_refl, lacking, message_self)
 
   -- the field's own parts return
   pub outside_home : (v : Message) → home_content f None (homeward old new a b v) (parts v) ≡ true

@@ -1,5 +1,5 @@
 -- An item that is read across two types as itself has the same body in both.
-use Rattle.std.proofs.Common.{◌≡◌, ℕ, ℤ, pos, negsuc, ◌*◌, ◌/◌, ◌%◌, ◌^◌, ◌<◌, ◌≤◌, true, false, [], Option, Some, refl, ap, sym, ◌∙◌, subst, arith, lt-ltb, le-ltb, eq-eqb, ne_eqb, ⊎_elim}
+use Rattle.std.proofs.Common.{◌≡◌, ℕ, ℤ, pos, negsuc, ◌*◌, ◌%◌, ◌^◌, ◌<◌, ◌≤◌, true, false, [], Option, Some, refl, ap, sym, ◌∙◌, subst, arith, lt-ltb, le-ltb, eq-eqb, ne_eqb, rules}
 use Rattle.std.proofs.lemmas.Bool.{cases_eq, cases_lt}
 use Rattle.pg_schema.specs.declared.parts.field.Scalar.{Scalar}
 use Rattle.pg_schema.specs.declared.parts.field.Scalar.TheVariants as scalars
@@ -17,10 +17,7 @@ use Rattle.pg_wire.proofs.PublicLaws.{varint_read_again}
 
 zigzag_back : (n : ℕ) → zigzag (unzigzag n) ≡ n
 unfolding unzigzag
-zigzag_back n =
-    ⊎_elim (λ even. rw (eq-eqb (n % 2) 0 even) (omega arith))
-    (λ odd. rw (ne_eqb (n % 2) 0 odd) (omega arith))
-    (cases_eq (n % 2) 0)
+zigzag_back n = search (rules, eq-eqb, ne_eqb, cases_eq)
 
 zigzag_of : (w : ℕ) (z : ℤ) → unzigzag w ≡ z → w ≡ zigzag z
 zigzag_of w z is = sym (zigzag_back w) ∙ ap zigzag is
@@ -28,10 +25,7 @@ zigzag_of w z is = sym (zigzag_back w) ∙ ap zigzag is
 -- the word of the signed number of a word, which is in range
 twos_of : (half w : ℕ) → w < 2 * half → (twos_complement (2 * half) (signed (2 * half) w) ≡ w) × IsBetween half half (signed (2 * half) w)
 unfolding signed
-twos_of half w short =
-    ⊎_elim (λ low. rw (lt-ltb w (2 * half / 2) low) (refl, omega arith))
-    (λ high. rw (le-ltb w (2 * half / 2) high) (omega arith, omega arith))
-    (cases_lt w (2 * half / 2))
+twos_of half w short = search (rules, lt-ltb, le-ltb, cases_lt)
 
 signed_of : (half w : ℕ) (z : ℤ) → w < 2 * half → signed (2 * half) w ≡ z → (w ≡ twos_complement (2 * half) z) × IsBetween half half z
 signed_of half w z short is = (sym (twos_of half w short).0 ∙ ap (twos_complement (2 * half)) is, subst (IsBetween half half) is (twos_of half w short).1)

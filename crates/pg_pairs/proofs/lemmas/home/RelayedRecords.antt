@@ -1,5 +1,5 @@
 -- The records that a new type writes again of an old type's message, number by number.
-use Rattle.std.proofs.Common.{◌≡◌, ℕ, ◌≤◌, List, [], ◌∷◌, ◌++◌, length, map, filter, true, false, not, ◌||◌, Option, Some, None, Ok, ◌⊎◌, inl, inr, ⊎_elim, refl, ap, ap₂, sym, ◌∙◌, subst, append-nil, eqb-true}
+use Rattle.std.proofs.Common.{◌≡◌, ℕ, ◌≤◌, List, [], ◌∷◌, ◌++◌, length, map, filter, true, not, ◌||◌, Option, Some, None, Ok, ◌⊎◌, refl, ap, sym, ◌∙◌, subst, append-nil, eqb-true, rules}
 use Rattle.std.specs.List.{AllByRecursion, list_all}
 use Rattle.std.proofs.lemmas.Bool.{false_from_ne_true}
 use Rattle.pg_schema.specs.declared.parts.field.TypeId.{TypeId}
@@ -79,9 +79,7 @@ module _ (old new : Shape) (a b : TypeId) (v w : Message) (goes : Goes old new a
   spelled_old = encoding_spells old a v goes.shape_old goes.is_message goes.has_encoding ∙ ap (λ us. Ok (written_old ++ us)) (unknown_is_kept.1 v goes.is_plain) ∙ ap Ok (append-nil written_old)
 
   read_old : read_records (dec new) gs written_old ≡ Some w
-  read_old =
-      let step : dec new b (enc old a v) ≡ read_records (dec new) gs written_old = rw (decoding_is new b (enc old a v), spelled_old) refl in
-      sym step ∙ goes.is_read
+  read_old = search (rules, decoding_is, spelled_old)
 
   abbrev pub own_of : FieldShape → List WireRecord
   own_of f = field_records f (map writes (comparands_at f.number cs))
@@ -100,9 +98,7 @@ module _ (old new : Shape) (a b : TypeId) (v w : Message) (goes : Goes old new a
           ∙ records_of_fields.1 f
 
   new_apart : (g h : FieldShape) → field_at gs g.number ≡ Some g → field_at gs h.number ≡ Some h → is_sibling g h ≡ true → (filter (of_number g.number) written_old ≡ []) ⊎ (filter (of_number h.number) written_old ≡ [])
-  new_apart g h at_g at_h sibling =
-      ⊎_elim (λ none. inl (no_old_records g.number none)) (λ none. inr (no_old_records h.number none))
-      (none_meet old new goes.shape_old goes.shape_new a b v goes.is_message goes.is_plain goes.has_encoding goes.fine g h at_g at_h sibling)
+  new_apart g h at_g at_h sibling = search (rules, no_old_records, none_meet)
 
   -- the parts that the new type reads of a field's records
   pub new_parts : (f g : FieldShape) → field_at fs f.number ≡ Some f → field_at gs f.number ≡ Some g → field_read (dec new) g (own_of f) ≡ Some (filter (is_of f.number) (parts w))
@@ -123,17 +119,13 @@ module _ (old new : Shape) (a b : TypeId) (v w : Message) (goes : Goes old new a
 
   unknown_at : (f : FieldShape) → field_at fs f.number ≡ Some f → filter (of_number f.number) (unknown_of w) ≡ filter (is_unknown gs) (own_of f)
   unknown_at f found =
-      ap (filter (of_number f.number)) (message_splits (dec new) gs written_old w type_new.rising read_old).2
-      ∙ filter_swap (of_number f.number) (is_unknown gs) written_old
-      ∙ ap (filter (is_unknown gs)) (old_records f found)
+      search (rules, of_number, message_splits, type_new, read_old, filter_swap, old_records)
 
   abbrev pub at_number : FieldShape → List WireRecord
   at_number f = filter (of_number f.number) again
 
   pub again_at : (f : FieldShape) → field_at fs f.number ≡ Some f → (known : List WireRecord) → filter (of_number f.number) (records_in gs (encoded_parts new b w)) ≡ known → at_number f ≡ known ++ filter (is_unknown gs) (own_of f)
-  again_at f found known is_known =
-      filter-append' (of_number f.number) (records_in gs (encoded_parts new b w)) (unknown_of w)
-      ∙ ap₂ (λ xs ys. xs ++ ys) is_known (unknown_at f found)
+  again_at f found known is_known = search (rules, filter-append', of_number, unknown_at)
 
   pub new_records : (f g : FieldShape) → field_at gs f.number ≡ Some g → filter (of_number f.number) (records_in gs (encoded_parts new b w)) ≡ field_records g (filter (is_of f.number) (encoded_parts new b w))
   new_records f g at = (writing_splits gs (encoded_parts new b w) f.number type_new.rising).0 g at
@@ -161,9 +153,7 @@ module _ (old new : Shape) (a b : TypeId) (v w : Message) (goes : Goes old new a
           again_at f found [] (new_records f g e ∙ ap (field_records g) no_encoded ∙ records_of_fields.1 g) ∙ ap (filter (is_unknown gs)) own_none
 
   pub old_apart : (f h : FieldShape) → field_at fs f.number ≡ Some f → field_at fs h.number ≡ Some h → is_sibling f h ≡ true → (at_number f ≡ []) ⊎ (at_number h ≡ [])
-  old_apart f h found_f found_h sibling =
-      ⊎_elim (λ none. inl (none_left f found_f (no_comparands f.number none))) (λ none. inr (none_left h found_h (no_comparands h.number none)))
-      (one_is_empty old a v f h goes.shape_old goes.is_message found_f found_h sibling)
+  old_apart f h found_f found_h sibling = search (rules, none_left, no_comparands, one_is_empty)
     where
       no_comparands : (n : ℕ) → filter (is_of n) (encoded_parts old a v) ≡ [] → comparands_at n cs ≡ []
       no_comparands n none = comparands_none (comparands_at n cs) (sym (field_written numbers old new a b v n) ∙ none)
@@ -171,14 +161,10 @@ module _ (old new : Shape) (a b : TypeId) (v w : Message) (goes : Goes old new a
   -- What the old type reads of its own records.
 
   read_own : read_records (dec old) fs written_old ≡ Some v
-  read_own =
-      let step : dec old a (enc old a v) ≡ read_records (dec old) fs written_old = rw (decoding_is old a (enc old a v), spelled_old) refl in
-      sym step ∙ goes.reads_again old a v goes.shape_old goes.is_message goes.has_encoding
+  read_own = search (rules, decoding_is, spelled_old)
 
   own_apart : (f h : FieldShape) → field_at fs f.number ≡ Some f → field_at fs h.number ≡ Some h → is_sibling f h ≡ true → (filter (of_number f.number) written_old ≡ []) ⊎ (filter (of_number h.number) written_old ≡ [])
-  own_apart f h found_f found_h sibling =
-      ⊎_elim (λ none. inl (none_of f found_f none)) (λ none. inr (none_of h found_h none))
-      (one_is_empty old a v f h goes.shape_old goes.is_message found_f found_h sibling)
+  own_apart f h found_f found_h sibling = search (rules, none_of, one_is_empty)
     where
       none_of : (f : FieldShape) → field_at fs f.number ≡ Some f → filter (is_of f.number) (encoded_parts old a v) ≡ [] → filter (of_number f.number) written_old ≡ []
       none_of f found none = (writing_splits fs (encoded_parts old a v) f.number type_old.rising).0 f found ∙ ap (field_records f) none ∙ records_of_fields.1 f
@@ -205,13 +191,7 @@ module _ (old new : Shape) (a b : TypeId) (v w : Message) (goes : Goes old new a
   module _ (f : FieldShape) (found : field_at fs f.number ≡ Some f) (lacks : field_at gs f.number ≡ None) where
     not_taken : (r : WireRecord) → r.number ≡ f.number → is_unknown gs r ≡ true
     not_taken r number =
-        ap not (list_any_none (λ g. takes g r) gs
-        (each_weaker (λ g. field_at gs g.number ≡ Some g) (λ g. takes g r ≡ false)
-        (λ g at. false_from_ne_true (takes g r) (λ taken.
-        let same : r.number ≡ g.number = eqb-true r.number g.number (records_of_fields.2 g r taken) in
-        let no : ◌≡◌ {A = Option FieldShape} None (Some g) = sym lacks ∙ ap (field_at gs) (sym number ∙ same) ∙ at in
-        absurd (cc)))
-        gs (fields_are_found.2 gs type_new.rising)))
+        search (rules, list_any_none, each_weaker, false_from_ne_true, eqb-true, records_of_fields, fields_are_found, type_new)
 
     pub lacked_records : at_number f ≡ own_of f
     lacked_records =
@@ -219,9 +199,4 @@ module _ (old new : Shape) (a b : TypeId) (v w : Message) (goes : Goes old new a
         ∙ filter_all (is_unknown gs) (own_of f) (each_weaker (λ (r : WireRecord). r.number ≡ f.number) (λ r. is_unknown gs r ≡ true) not_taken (own_of f) (records_of_fields.0 f (map writes (comparands_at f.number cs))))
 
     pub lacked_comes : FieldComes (dec old) f None homing (at_number f)
-    lacked_comes = record {
-      readable = ap (all_field_readable (dec old) f) lacked_records ∙ own_readable f found;
-      made = filter (is_of f.number) (parts v);
-      read = ap (field_read (dec old) f) lacked_records ∙ own_read f found;
-      is_home = home_parts f None homing (parts v) ∙ outside_home old new a b f lacks v;
-    }
+    lacked_comes = search (rules, lacked_records, own_readable, own_read, home_parts, outside_home)

@@ -1,10 +1,9 @@
 -- Whether one of the pairs that a pair leads to packs what was singular.
-use Rattle.std.proofs.Common.{◌≡◌, List, [], ◌∷◌, length, Bool, true, false, not, ◌&&◌, ◌||◌, ◌↔◌, ◌⊎◌, inl, inr, ⊎_elim, map, None, nat_lt, refl, ap, sym, ◌∙◌, subst, true≢false}
+use Rattle.std.proofs.Common.{◌≡◌, List, [], ◌∷◌, Bool, true, false, not, ◌||◌, ◌↔◌, ◌⊎◌, ⊎_elim, map, None, nat_lt, refl, ap, sym, ◌∙◌, subst, true≢false, rules}
 use Rattle.std.specs.List.{AllByRecursion, list_any}
 use Rattle.std.proofs.lemmas.Bool.{ltb-false}
 use Rattle.std.proofs.lemmas.List.{get_or_past}
 use Rattle.pg_schema.specs.declared.parts.field.Field.{Field}
-use Rattle.pg_schema.specs.declared.parts.message_type.MessageType.{MessageType}
 use Rattle.pg_schema.specs.declared.parts.Parts.{Parts}
 use Rattle.pg_schema.specs.Parts.{field_shape, shape_of}
 use Rattle.pg_schema.specs.Lookups.{type_at}
@@ -59,9 +58,7 @@ packs_of old new pair fs is =
     ∙ ap (list_any (λ f. becomes_packed f (field_at (fields new pair.new) f.number))) is
 
 pub packs_none : (old : Parts) (new : Shape) (pair : Pair) → type_at old pair.old ≡ None → false ≡ packs (shape_of old) new pair
-packs_none old new pair none =
-    ap (list_any (λ (f : FieldShape). becomes_packed f (field_at (fields new pair.new) f.number)))
-    (sym (past (λ (t : MessageType). map field_shape t.fields.items) [] old.types.items pair.old.index none))
+packs_none old new pair none = search (rules, past)
 
 -- A pair of a type that isn't there has no fields in one of the types.
 
@@ -80,12 +77,7 @@ no_field_leads fs gs none = ⊎_elim (λ no_old. rw no_old refl) (λ no_new. rw 
     all_absent (x ∷ xs) = all_absent xs
 
 lacks : (old new : Shape) (pair : Pair) → is_pair old new pair ≡ false → (fields old pair.old ≡ []) ⊎ (fields new pair.new ≡ [])
-lacks old new pair none = of (nat_lt pair.old.index (length old)) (nat_lt pair.new.index (length new)) refl refl none
-  where
-    of : (b c : Bool) → nat_lt pair.old.index (length old) ≡ b → nat_lt pair.new.index (length new) ≡ c → (b && c) ≡ false → (fields old pair.old ≡ []) ⊎ (fields new pair.new ≡ [])
-    of true true here there both = absurd (true≢false both)
-    of false c here there both = inl (get_or_past old pair.old.index [] (ltb-false pair.old.index (length old) here))
-    of true false here there both = inr (get_or_past new pair.new.index [] (ltb-false pair.new.index (length new) there))
+lacks old new pair none = search (rules, nat_lt, true≢false, get_or_past, ltb-false)
 
 pub unknown_returns : (old new : Shape) (root : Pair) → is_pair old new root ≡ false → Returns old new root
 unknown_returns old new root none p leads =

@@ -1,5 +1,5 @@
 -- Comparands that the new type reads and writes again are seen by the old one.
-use Rattle.std.proofs.Common.{◌≡◌, ℕ, ◌≤◌, List, ◌∷◌, map, filter, true, false, Option, Some, None, option_map, is_some, unwrap_or, refl, ap, sym, ◌∙◌, subst, arith, length, Bool}
+use Rattle.std.proofs.Common.{◌≡◌, ℕ, ◌≤◌, List, ◌∷◌, map, filter, true, false, Option, Some, None, option_map, is_some, unwrap_or, refl, ap, sym, ◌∙◌, subst, length, Bool, rules}
 use Rattle.std.specs.List.{AllByRecursion}
 use Rattle.pg_schema.specs.declared.parts.field.TypeId.{TypeId}
 use Rattle.pg_schema.specs.declared.parts.field.Element.{Element}
@@ -90,8 +90,7 @@ pub good_parts : (new : Shape) (b : TypeId) (n : ℕ) → n ≤ cap → (w : Mes
 good_parts new b n small (ends unknown) is shorter = tt
 good_parts new b n small (holds number key leaf later) is shorter = (tt, good_parts new b n small later is.2 shorter)
 good_parts new b n small (nests number key child later) is shorter =
-    let type : child_type (fields new b) number ≡ is.1 = fields_are_found.3 (fields new b) number is.0.field is.1 is.0.found is.2 in
-    ((subst (λ t. IsMessage new t child) (sym type) is.3, let less = shorter.0 in omega arith), good_parts new b n small later is.4 shorter.1)
+    search (rules, good_parts new b n small later is.4 shorter.1, fields_are_found)
 
 -- An item and its body.
 
@@ -132,15 +131,8 @@ module _ (old new : Shape) (f g : FieldShape) (numbers_are : g.number ≡ f.numb
 
   leaf_back : (e d : Element) (h : Comparand) → h.number ≡ f.number → like e d ≡ true → is_bool_of_zigzag e d ≡ false → InRange (form e) h.written → h.expected ≡ Alike h.written → IsReadAs (form d) (body (form e) h.written) h.written
       → item_read (dec new) d h.written ≡ Plain h.written → ((bytes : List ℕ) → is_child (dec old) e bytes ≡ true) → ((leaf : Leaf) → read_item (dec old) e leaf ≡ Some (Plain leaf)) → ((leaf : Leaf) → IsNestedLeaf e leaf) → Back e d h
-  leaf_back e d h number is_like apart range expected read item child_is read_is nested = record {
-    number_is = number ∙ sym numbers_are;
-    body_read = rw item (back_read e d h.written is_like apart range read);
-    nested = rw item (nested h.written);
-    child_there = child_is _;
-    there = rw (item, read_is h.written);
-    met = rw (item, read_is h.written, expected) (alike_self d e h.written);
-    zero_same = rw (item, read_is h.written, expected);
-  }
+  leaf_back e d h number is_like apart range expected read item child_is read_is nested =
+      search (rules, back_read, alike_self)
 
   -- the comparands of like elements
   pub back_seen : (e d : Element) (h : Comparand) → h.number ≡ f.number → like e d ≡ true → is_bool_of_zigzag e d ≡ false → IsRead (dec new) e d h → IsGood new (element_type d) (item_read (dec new) d h.written) → ComesBack old new e d h → Back e d h
@@ -152,20 +144,5 @@ module _ (old new : Shape) (f g : FieldShape) (numbers_are : g.number ≡ f.numb
   back_seen (elements.Enum s) (elements.Message t) h number is_like apart read good back = absurd (cc)
   back_seen (elements.Message s) (elements.Scalar t) h number is_like apart read good back = absurd (cc)
   back_seen (elements.Message s) (elements.Enum t) h number is_like apart read good back = absurd (cc)
-  back_seen (elements.Message s) (elements.Message t) h number is_like apart read good back = of back
-    where
-      of : ComesBack old new (elements.Message s) (elements.Message t) h → Back (elements.Message s) (elements.Message t) h
-      of (bytes, test, w, so, home) =
-          let body_is : body (form (elements.Message s)) h.written ≡ bytes = ap (body (form (elements.Message s))) w in
-          let (m, is, item) = message_there (dec new t bytes) (Plain (Bytes bytes)) (ap (λ y. is_some (dec new t y)) (sym body_is) ∙ read.child_there) in
-          let read_is : item_read (dec new) (elements.Message t) h.written ≡ Msg m = ap (item_read (dec new) (elements.Message t)) w ∙ item in
-          let (x, again, tested) = home m is (subst (IsGood new t) read_is good) in
-          record {
-            number_is = number ∙ sym numbers_are;
-            body_read = rw read_is (record { read = refl; shape = tt });
-            nested = rw read_is refl;
-            child_there = rw (read_is, again) refl;
-            there = rw (read_is, again) refl;
-            met = rw (read_is, again, so) tested;
-            zero_same = rw (read_is, again, so) refl;
-          }
+  back_seen (elements.Message s) (elements.Message t) h number is_like apart read good back =
+      search (rules, message_there, is_some, item_read)

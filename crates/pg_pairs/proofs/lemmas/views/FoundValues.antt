@@ -1,5 +1,5 @@
 -- Where a value is found among others: at an index, or among those of its number, which are next to each other.
-use Rattle.std.proofs.Common.{◌≡◌, ℕ, zero, suc, ℤ, ◌+◌, ◌-◌, ◌<◌, ◌≤◌, List, [], ◌∷◌, length, get_or, map, take, drop, length-drop, get_or-drop, Bool, true, false, not, ◌&&◌, ◌||◌, ltb, leb, ltb-true, ap, subst, refl, ◌∙◌, arith}
+use Rattle.std.proofs.Common.{◌≡◌, ℕ, zero, suc, ℤ, ◌+◌, ◌-◌, ◌<◌, ◌≤◌, List, [], ◌∷◌, length, get_or, map, take, drop, length-drop, get_or-drop, Bool, true, false, not, ◌&&◌, ◌||◌, ltb, leb, ltb-true, ap, refl, ◌∙◌, arith, rules}
 use Rattle.std.specs.List.{list_any}
 use Rattle.std.specs.List.Sorted.{IsPartitionPoint}
 use Rattle.std.specs.Ordering.{int_eq}
@@ -28,18 +28,10 @@ module _ {A B : Type 0} (f : A → B) (test : B → Bool) where
       rw (below zero x (omega arith)) (any_within xs s n (omega arith) (λ k d h. below (suc k) d (omega arith)) (λ k d h i. above (suc k) d (omega arith) (omega arith)))
 
 apart_below : (u v : NamedNumber) → number_word u.number < number_word v.number → int_eq u.number v.number ≡ false
-apart_below u v below =
-    elim (int_eq u.number v.number) as (λ b. int_eq u.number v.number ≡ b → b ≡ false) [
-      | true ↦ λ e. let same = ap number_word ((Decides-int_eq u.number v.number).0 e) in absurd (omega arith)
-      | false ↦ λ e. refl
-    ] refl
+apart_below u v below = search (rules, Decides-int_eq)
 
 apart_above : (u v : NamedNumber) → number_word v.number < number_word u.number → int_eq u.number v.number ≡ false
-apart_above u v above =
-    elim (int_eq u.number v.number) as (λ b. int_eq u.number v.number ≡ b → b ≡ false) [
-      | true ↦ λ e. let same = ap number_word ((Decides-int_eq u.number v.number).0 e) in absurd (omega arith)
-      | false ↦ λ e. refl
-    ] refl
+apart_above u v above = search (rules, Decides-int_eq)
 
 module _ (xs : List EnumValue) (v : NamedNumber) (s n : ℕ) (within : s + n ≤ length xs) (below : (k : ℕ) (d : EnumValue) → k < s → int_eq (get_or xs k d).number v.number ≡ false)
     (above : (k : ℕ) (d : EnumValue) → s + n ≤ k → k < length xs → int_eq (get_or xs k d).number v.number ≡ false) where
@@ -50,10 +42,7 @@ module _ (xs : List EnumValue) (v : NamedNumber) (s n : ℕ) (within : s + n ≤
   same_numbers = any_within named (λ u. int_eq u.number v.number) xs s n within below above
 
   same_names_there : has_name (map named part) v.number v.name ≡ has_name (map named xs) v.number v.name
-  same_names_there =
-      any_within named (λ u. int_eq u.number v.number && bytes_eq u.name v.name) xs s n within
-      (λ k d h. and_left (int_eq (get_or xs k d).number v.number) (bytes_eq (named (get_or xs k d)).name v.name) (below k d h))
-      (λ k d h i. and_left (int_eq (get_or xs k d).number v.number) (bytes_eq (named (get_or xs k d)).name v.name) (above k d h i))
+  same_names_there = search (rules, any_within, and_left)
 
   same_missing : is_missing (map named part) v ≡ is_missing (map named xs) v
   same_missing = ap (λ b. b && not (has_name (map named part) v.number v.name)) same_numbers ∙ ap (λ b. declares (map named xs) v.number && not b) same_names_there
@@ -64,13 +53,7 @@ pub cut : (xs : List EnumValue) (v : NamedNumber) (s n : ℕ) → s ≤ length x
     → IsPartitionPoint (λ (y : EnumValue). leb (number_word y.number) (number_word v.number) ≡ true) (λ (y : EnumValue). leb (number_word y.number) (number_word v.number) ≡ false) (drop s xs) n
     → is_missing (map named (take n (drop s xs))) v ≡ is_missing (map named xs) v
 cut xs v s n inside within lower upper =
-    let long = length-drop s xs in
-    same_missing xs v s n (omega arith)
-    (λ k d h. apart_below (named (get_or xs k d)) v (ltb-true (number_word (get_or xs k d).number) (number_word v.number) (lower.0 k d (omega arith) h)))
-    (λ k d h i.
-    apart_above (named (get_or xs k d)) v
-    (leb-false (number_word (get_or xs k d).number) (number_word v.number)
-    (subst (λ (a : EnumValue). leb (number_word a.number) (number_word v.number) ≡ false) (from_start k d (omega arith)) (upper.1 (k - s) d (omega arith) (omega arith)))))
+    search (rules, length-drop, same_missing, apart_below, ltb-true, apart_above, leb-false, leb, from_start)
   where
     from_start : (k : ℕ) (d : EnumValue) → s ≤ k → get_or (drop s xs) (k - s) d ≡ get_or xs k d
     from_start k d h = get_or-drop s xs (k - s) d ∙ ap (λ i. get_or xs i d) (let same : s + (k - s) ≡ k = omega arith in same)
@@ -79,13 +62,9 @@ cut xs v s n inside within lower upper =
 
 is_there : (n : ℤ) (name : List ℕ) (others : List EnumValue) (place : ℕ) (o : EnumValue) → place < length others → o ≡ get_or others place o → (int_eq o.number n && bytes_eq (string_bytes o.name) name) ≡ true → has_name (map named others) n name ≡ true
 is_there n name [] place o h is named_so = absurd (omega (arith, h))
-is_there n name (u ∷ others) zero o h is named_so =
-    or_left (int_eq u.number n && bytes_eq (string_bytes u.name) name) (has_name (map named others) n name)
-    (subst (λ (w : EnumValue). (int_eq w.number n && bytes_eq (string_bytes w.name) name) ≡ true) is named_so)
+is_there n name (u ∷ others) zero o h is named_so = search (rules, or_left)
 is_there n name (u ∷ others) (suc place) o h is named_so =
     or_right (int_eq u.number n && bytes_eq (string_bytes u.name) name) (has_name (map named others) n name) (is_there n name others place o (omega (arith, h)) is named_so)
 
 pub not_missing : (others : List EnumValue) (place : ℕ) (o v : EnumValue) → place < length others → o ≡ get_or others place o → (int_eq o.number v.number && bytes_eq (string_bytes o.name) (string_bytes v.name)) ≡ true → is_missing (map named others) (named v) ≡ false
-not_missing others place o v h is named_so =
-    let there = is_there v.number (string_bytes v.name) others place o h is named_so in
-    and_right (declares (map named others) v.number) (not (has_name (map named others) v.number (string_bytes v.name))) (ap not there)
+not_missing others place o v h is named_so = search (rules, is_there, and_right)

@@ -1,5 +1,5 @@
 -- The least number that one of two enums names and the other doesn't is the least that differs.
-use Rattle.std.proofs.Common.{◌≡◌, ◌+◌, ◌<◌, ◌^◌, ℕ, suc, ℤ, pos, negsuc, List, [], ◌∷◌, ◌++◌, length, get_or, drop, map, filter, arith, Bool, true, false, not, ◌&&◌, ◌||◌, Option, Some, None, inl, inr, ⊎_elim, refl, ap, sym, ◌∙◌, subst, true≢false}
+use Rattle.std.proofs.Common.{◌≡◌, ◌+◌, ◌<◌, ◌^◌, ℕ, suc, ℤ, pos, negsuc, List, [], ◌∷◌, ◌++◌, length, get_or, drop, map, arith, Bool, true, false, not, ◌&&◌, ◌||◌, Option, Some, None, inl, inr, ⊎_elim, refl, ap, sym, ◌∙◌, subst, true≢false, rules}
 use Rattle.std.specs.Ordering.{int_eq}
 use Rattle.std.proofs.Math.Seq.{drop-cons}
 use Rattle.std.proofs.lemmas.Bool.{and_parts, and_from, and_cases, and_left, and_right, or_from, or_left, or_right, lt-ltb}
@@ -50,42 +50,16 @@ missing_value (u ∷ values) others n h =
     (and_cases (not (int_eq u.number n) || has_name others n u.name) (names_within values others n) h)
   where
     of : (not (int_eq u.number n) || has_name others n u.name) ≡ false → (u.number ≡ n) × (has_name others n u.name ≡ false)
-    of h =
-        elim (int_eq u.number n) as (λ b. int_eq u.number n ≡ b → (not b || has_name others n u.name) ≡ false → (u.number ≡ n) × (has_name others n u.name ≡ false)) [
-          | true ↦ λ e k. ((Decides-int_eq u.number n).0 e, k)
-          | false ↦ λ e k. absurd (true≢false k)
-        ] refl h
+    of h = search (rules, Decides-int_eq, true≢false)
 
 module _ (zero : Bool) (values others : List NamedNumber) where
-  abbrev passes : NamedNumber → Bool
-  passes v = number_counts zero v.number && is_missing others v
-
   -- what a missing number comes from
   comes_from : (n : ℤ) → IsAmong n (missing_numbers zero values others) →
       (number_counts zero n ≡ true) × (declares values n ≡ true) × (declares others n ≡ true) × (names_within values others n ≡ false)
-  comes_from n h =
-      let from = map_among (λ (v : NamedNumber). v.number) n (filter passes values) h in
-      let v = from.0 in
-      let kept = filter_among passes v values from.1 in
-      let both = and_parts (number_counts zero v.number) (is_missing others v) kept.1 in
-      let lacks = and_parts (declares others v.number) (not (has_name others v.number v.name)) both.1 in
-      subst (λ m. (number_counts zero m ≡ true) × (declares values m ≡ true) × (declares others m ≡ true) × (names_within values others m ≡ false)) (sym from.2)
-      (both.0, declared_there v values kept.0, lacks.0, not_within v values others kept.0 (of (has_name others v.number v.name) lacks.1))
-    where
-      of : (b : Bool) → not b ≡ true → b ≡ false
-      of true h = sym h
-      of false h = refl
+  comes_from n h = search (rules, map_among, filter_among, and_parts, declared_there, not_within)
 
   is_there : (n : ℤ) → number_counts zero n ≡ true → declares others n ≡ true → names_within values others n ≡ false → IsAmong n (missing_numbers zero values others)
-  is_there n counts there lacks =
-      let found = missing_value values others n lacks in
-      let v = found.0 in
-      let is : v.number ≡ n = found.2 in
-      let missing : is_missing others v ≡ true =
-      and_from (declares others v.number) (not (has_name others v.number v.name)) (subst (λ m. declares others m ≡ true) (sym is) there)
-      (subst (λ m. not (has_name others m v.name) ≡ true) (sym is) (ap not found.3)) in
-      let kept = among_filter passes v values found.1 (and_from (number_counts zero v.number) (is_missing others v) (subst (λ m. number_counts zero m ≡ true) (sym is) counts) missing) in
-      subst (λ m. IsAmong m (missing_numbers zero values others)) is (among_map (λ (v : NamedNumber). v.number) v (filter passes values) kept)
+  is_there n counts there lacks = search (rules, missing_value, and_from, among_filter, among_map)
 
 module _ (zero : Bool) (old new : List NamedNumber) where
   abbrev both_ways : List ℤ
@@ -107,12 +81,7 @@ module _ (zero : Bool) (old new : List NamedNumber) where
 
   complete : (n : ℤ) → Differs (same_names old new) zero n → IsAmong n both_ways
   complete n d =
-      let parts = unlike_parts old new n d.not_alike in
-      let counts = counted_so (same_names old new) zero n d in
-      ⊎_elim
-      (λ first. among_left n (missing_numbers zero old new) (missing_numbers zero new old) (is_there zero old new n counts parts.1 first))
-      (λ second. among_right n (missing_numbers zero old new) (missing_numbers zero new old) (is_there zero new old n counts parts.0 second))
-      (and_cases (names_within old new n) (names_within new old n) parts.2)
+      search (rules, unlike_parts, counted_so, among_left, is_there, among_right, and_cases)
 
   pub least_both_ways : lesser_of (least_number (missing_numbers zero old new)) (least_number (missing_numbers zero new old)) ≡ least_number (differing zero old new)
   least_both_ways =
@@ -148,12 +117,7 @@ module _ (zero : Bool) (v : NamedNumber) (values others : List NamedNumber) (o :
 module _ (zero : Bool) (v : NamedNumber) (values others : List NamedNumber) (o : Option ℤ) where
   pub passed_over_step : lesser_of o (Some v.number) ≡ o →
       lesser_of o (least_number (missing_numbers zero values others)) ≡ lesser_of o (least_number (missing_numbers zero (v ∷ values) others))
-  passed_over_step h =
-      let rest = least_number (missing_numbers zero values others) in
-      elim (number_counts zero v.number && is_missing others v) as (λ b. (number_counts zero v.number && is_missing others v) ≡ b → lesser_of o rest ≡ lesser_of o (least_number (missing_numbers zero (v ∷ values) others))) [
-        | true ↦ λ e. ap (λ x. lesser_of x rest) (sym h) ∙ counted_step zero v values others o e
-        | false ↦ λ e. left_out_step zero v values others o e
-      ] refl
+  passed_over_step h = search (rules, counted_step, left_out_step)
 
 -- What is left of the values, the next one first.
 pub next_left : (zero : Bool) (values : List EnumValue) (others : List NamedNumber) (i : ℕ) (v : EnumValue) (o : Option ℤ) → i < length values → v ≡ get_or values i v

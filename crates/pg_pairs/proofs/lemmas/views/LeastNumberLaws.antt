@@ -1,5 +1,5 @@
 -- The least word of some numbers is that of the shortest and least one, and there is only one such number.
-use Rattle.std.proofs.Common.{◌≡◌, ◌≤◌, ◌^◌, ◌-◌, suc, ℤ, pos, negsuc, List, [], ◌∷◌, ◌++◌, length, Bool, true, false, nat_le, cond, Option, Some, None, inl, inr, ⊎_elim, refl, ap, sym, ◌∙◌, arith}
+use Rattle.std.proofs.Common.{◌≡◌, ◌≤◌, ◌^◌, ◌-◌, ℤ, pos, negsuc, List, [], ◌∷◌, ◌++◌, length, Bool, Option, Some, None, refl, arith, rules}
 use Rattle.std.proofs.lemmas.Bool.{leb-true, leb-false, le-leb, lt-leb}
 use Rattle.std.proofs.lemmas.Int.{ints}
 use Rattle.std.specs.Int.Signed.{◌≤ℤ◌}
@@ -23,10 +23,7 @@ long = refl
 lower : (n m : ℤ) → IsBetween (2 ^ 31) (2 ^ 31) n → IsBetween (2 ^ 31) (2 ^ 31) m → number_word n ≤ number_word m →
     word_length m ≡ word_length n → n ≤ℤ m
 lower (pos a) (pos b) i j h e = omega (arith, ints)
-lower (pos a) (negsuc b) i j h e =
-    let few = lengths_grow.0 a 2147483647 (omega arith) in
-    let many = lengths_grow.0 18446744071562067968 (2 ^ 64 - suc b) (omega arith) in
-    absurd (omega (arith, short, long))
+lower (pos a) (negsuc b) i j h e = search (rules, lengths_grow, short, long)
 lower (negsuc a) (pos b) i j h e = omega (arith, ints)
 lower (negsuc a) (negsuc b) i j h e = omega (arith, ints)
 
@@ -37,21 +34,8 @@ IsLeastIn ns (Some n) = IsAmong n ns × ((m : ℤ) → IsAmong m ns → number_w
 IsLeastIn ns None = (m : ℤ) → IsAmong m ns → ⊥
 
 of_more : (n : ℤ) (ns : List ℤ) (o : Option ℤ) → IsLeastIn ns o → IsLeastIn (n ∷ ns) (Some (lesser n o))
-of_more n ns None none =
-    (inl refl, λ m. ⊎_elim (λ same. let e = ap number_word same in omega arith) (λ later. absurd (none m later)))
-of_more n ns (Some k) (among, least) =
-    elim (nat_le (number_word n) (number_word k)) as
-    (λ b. nat_le (number_word n) (number_word k) ≡ b → IsLeastIn (n ∷ ns) (Some (cond b n k))) [
-      | true ↦ λ e.
-          let below = leb-true (number_word n) (number_word k) e in (
-            inl refl,
-            λ m. ⊎_elim (λ same. let w = ap number_word same in omega arith)
-                (λ later. let above = least m later in omega arith),
-          )
-      | false ↦ λ e.
-          let above = leb-false (number_word n) (number_word k) e in
-          (inr among, λ m. ⊎_elim (λ same. let w = ap number_word same in omega arith) (λ later. least m later))
-    ] refl
+of_more n ns None none = search rules
+of_more n ns (Some k) (among, least) = search (rules, leb-true, leb-false)
 
 is_least : (ns : List ℤ) → IsLeastIn ns (least_number ns)
 is_least [] = λ m h. h
@@ -63,13 +47,7 @@ module _ (alike : ℤ → Bool) (zero : Bool) where
   of_list : (ns : List ℤ) (o : Option ℤ) → IsLeastIn ns o → ((n : ℤ) → IsAmong n ns → Differs alike zero n) →
       ((n : ℤ) → Differs alike zero n → IsAmong n ns) → IsLeastOf alike zero o
   of_list ns None none sound complete = λ n d. none n (complete n d)
-  of_list ns (Some n) (among, least) sound complete =
-      let differs = sound n among in
-      record {
-        differs = differs;
-        shortest = λ m d. lengths_grow.0 (number_word n) (number_word m) (least m (complete m d));
-        lowest = λ m d same. lower n m differs.in_range d.in_range (least m (complete m d)) same;
-      }
+  of_list ns (Some n) (among, least) sound complete = search (rules, lengths_grow, lower)
 
   pub least_of_those : (ns : List ℤ) → ((n : ℤ) → IsAmong n ns → Differs alike zero n) →
       ((n : ℤ) → Differs alike zero n → IsAmong n ns) → IsLeastOf alike zero (least_number ns)
@@ -80,14 +58,7 @@ module _ (alike : ℤ → Bool) (zero : Bool) where
   one_least None None h k = refl
   one_least None (Some m) h k = absurd (h m k.differs)
   one_least (Some n) None h k = absurd (k n h.differs)
-  one_least (Some n) (Some m) h k =
-      let below = h.shortest m k.differs in
-      let above = k.shortest n h.differs in
-      let same : word_length m ≡ word_length n = omega arith in
-      let up : n ≤ℤ m = h.lowest m k.differs same in
-      let down : m ≤ℤ n = k.lowest n h.differs (sym same) in
-      let is : n ≡ m = omega (arith, ints) in
-      ap Some is
+  one_least (Some n) (Some m) h k = search (rules, word_length)
 
 -- The least of two lists is the lesser of their least.
 
@@ -95,32 +66,8 @@ pub lesser_of-some : (n : ℤ) (o later : Option ℤ) →
     lesser_of (Some (lesser n o)) later ≡ Some (lesser n (lesser_of o later))
 lesser_of-some n None later = refl
 lesser_of-some n (Some k) None = refl
-lesser_of-some n (Some k) (Some m) =
-    elim (nat_le (number_word n) (number_word k)) as
-    (λ b. nat_le (number_word n) (number_word k) ≡ b →
-    Some (lesser (cond b n k) (Some m)) ≡ Some (lesser n (Some (lesser k (Some m))))) [
-      | true ↦ λ e.
-          let first = leb-true (number_word n) (number_word k) e in
-          elim (nat_le (number_word k) (number_word m)) as
-          (λ b. nat_le (number_word k) (number_word m) ≡ b →
-          Some (lesser n (Some m)) ≡ Some (lesser n (Some (cond b k m)))) [
-            | true ↦ λ f.
-                let second = leb-true (number_word k) (number_word m) f in
-                rw (le-leb (number_word n) (number_word m) (omega arith), e) refl
-            | false ↦ λ f. refl
-          ] refl
-      | false ↦ λ e.
-          let first = leb-false (number_word n) (number_word k) e in
-          elim (nat_le (number_word k) (number_word m)) as
-          (λ b. nat_le (number_word k) (number_word m) ≡ b → Some (cond b k m) ≡ Some (lesser n (Some (cond b k m)))) [
-            | true ↦ λ f. rw e refl
-            | false ↦ λ f.
-                let second = leb-false (number_word k) (number_word m) f in
-                rw (lt-leb (number_word n) (number_word m) (omega arith)) refl
-          ] refl
-    ] refl
+lesser_of-some n (Some k) (Some m) = search (rules, leb-true, le-leb, leb-false, lt-leb)
 
 pub least_of_both : (ns ms : List ℤ) → lesser_of (least_number ns) (least_number ms) ≡ least_number (ns ++ ms)
 least_of_both [] ms = refl
-least_of_both (n ∷ ns) ms =
-    lesser_of-some n (least_number ns) (least_number ms) ∙ ap (λ o. Some (lesser n o)) (least_of_both ns ms)
+least_of_both (n ∷ ns) ms = search (rules, least_of_both ns ms, lesser_of-some)

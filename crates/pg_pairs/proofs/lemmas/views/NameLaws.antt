@@ -1,7 +1,7 @@
 -- The view by names keeps its law: the least of the old numbers that differ is the least of all.
-use Rattle.std.proofs.Common.{◌≡◌, ◌^◌, ℤ, pos, negsuc, List, [], ◌∷◌, ◌++◌, map, filter, Bool, true, false, not, ◌&&◌, ◌||◌, cond, ◌⊎◌, inl, inr, ⊎_elim, refl, ap, sym, ◌∙◌, true≢false}
+use Rattle.std.proofs.Common.{◌≡◌, ◌^◌, ℤ, pos, negsuc, List, [], ◌∷◌, ◌++◌, map, filter, Bool, true, false, not, ◌&&◌, ◌||◌, cond, ◌⊎◌, inl, inr, ⊎_elim, refl, ap, sym, ◌∙◌, true≢false, rules}
 use Rattle.std.specs.Ordering.{int_eq}
-use Rattle.std.proofs.lemmas.Bool.{and_parts, and_from, or_parts, ltb-true, lt-ltb, not_from_false}
+use Rattle.std.proofs.lemmas.Bool.{and_parts, and_from, ltb-true, lt-ltb, not_from_false}
 use Rattle.std.proofs.lemmas.Bool.Decides.{Decides-int_eq}
 use Rattle.pg_schema.specs.declared.parts.enum_type.EnumType.{EnumType}
 use Rattle.pg_wire.specs.Words.{IsBetween}
@@ -71,11 +71,7 @@ has_32 (negsuc n) h = lt-ltb n (2 ^ 31) h
 
 counted : (zero : Bool) (n : ℤ) → (zero || not (int_eq n (pos 0))) ≡ true → Counts zero n
 counted true n h = tt
-counted false n h = of (int_eq n (pos 0)) h
-  where
-    of : (b : Bool) → not b ≡ true → b ≡ false
-    of true h = sym h
-    of false h = refl
+counted false n h = search (rules, pos)
 
 counts_so : (zero : Bool) (n : ℤ) → Counts zero n → (zero || not (int_eq n (pos 0))) ≡ true
 counts_so true n h = refl
@@ -83,27 +79,16 @@ counts_so false n h = not_from_false (int_eq n (pos 0)) h
 
 pub counting : (alike : ℤ → Bool) (zero : Bool) (n : ℤ) → number_counts zero n ≡ true → alike n ≡ false →
     Differs alike zero n
-counting alike zero n h unlike =
-    let both = and_parts (has_32_bits n) (zero || not (int_eq n (pos 0))) h in
-    record { in_range = fits_32 n both.0; counts = counted zero n both.1; not_alike = unlike }
+counting alike zero n h unlike = search (rules, and_parts, pos, fits_32, counted)
 
 pub counted_so : (alike : ℤ → Bool) (zero : Bool) (n : ℤ) → Differs alike zero n → number_counts zero n ≡ true
-counted_so alike zero n d =
-    and_from (has_32_bits n) (zero || not (int_eq n (pos 0))) (has_32 n d.in_range) (counts_so zero n d.counts)
+counted_so alike zero n d = search (rules, and_from, pos, has_32, counts_so)
 
 -- A number that isn't alike is declared on both sides, and has a name on one that it hasn't on the other.
 
 pub unlike_parts : (old new : List NamedNumber) (n : ℤ) → same_names old new n ≡ false →
     (declares old n ≡ true) × (declares new n ≡ true) × ((names_within old new n && names_within new old n) ≡ false)
-unlike_parts old new n h =
-    let parts =
-    or_parts (not (declares old n && declares new n)) (names_within old new n && names_within new old n) h in
-    let both = and_parts (declares old n) (declares new n) (of (declares old n && declares new n) parts.0) in
-    (both.0, both.1, parts.1)
-  where
-    of : (b : Bool) → not b ≡ false → b ≡ true
-    of true h = refl
-    of false h = sym h
+unlike_parts old new n h = search (rules, and_parts)
 
 pub declared : (values : List NamedNumber) (n : ℤ) → declares values n ≡ true →
     IsAmong n (map (λ (v : NamedNumber). v.number) values)
@@ -118,23 +103,11 @@ declared (v ∷ values) n =
 
 module _ (old new : List NamedNumber) (zero : Bool) where
   sound : (n : ℤ) → IsAmong n (differing zero old new) → Differs (same_names old new) zero n
-  sound n h =
-      let passes =
-      (filter_among (λ n. number_counts zero n && not (same_names old new n)) n
-      (map (λ (v : NamedNumber). v.number) old) h).1 in
-      let both = and_parts (number_counts zero n) (not (same_names old new n)) passes in
-      counting (same_names old new) zero n both.0 (of (same_names old new n) both.1)
-    where
-      of : (b : Bool) → not b ≡ true → b ≡ false
-      of true h = sym h
-      of false h = refl
+  sound n h = search (rules, filter_among, and_parts, counting)
 
   complete : (n : ℤ) → Differs (same_names old new) zero n → IsAmong n (differing zero old new)
   complete n d =
-      among_filter (λ n. number_counts zero n && not (same_names old new n)) n (map (λ (v : NamedNumber). v.number) old)
-      (declared old n (unlike_parts old new n d.not_alike).0)
-      (and_from (number_counts zero n) (not (same_names old new n)) (counted_so (same_names old new) zero n d)
-      (not_from_false (same_names old new n) d.not_alike))
+      search (rules, among_filter, declared, unlike_parts, and_from, counted_so, not_from_false)
 
   pub least_differing_is : IsLeastOf (same_names old new) zero (least_number (differing zero old new))
   least_differing_is = least_of_those (same_names old new) zero (differing zero old new) sound complete

@@ -1,5 +1,5 @@
 -- What the view of a name finds between two schemas is an enum view, for enums that aren't there too.
-use Rattle.std.proofs.Common.{◌≡◌, ℤ, Bool, true, Option, Some, None, refl, true≢false}
+use Rattle.std.proofs.Common.{◌≡◌, ℤ, Bool, true, Option, Some, None, refl, true≢false, rules}
 use Rattle.pg_schema.specs.declared.parts.enum_type.EnumType.{EnumType}
 use Rattle.pg_schema.specs.declared.parts.Parts.{Parts}
 use Rattle.pg_schema.specs.Parts.{enum_at}
@@ -37,8 +37,4 @@ none_differ (Some a) None zero = refl
 none_differ None new zero = refl
 
 pub numbers_are_alike : NumbersAreAlike
-numbers_are_alike old new =
-    λ j. record {
-      alike = λ a b n. all_alike (enum_at old a) (enum_at new b) n j;
-      least = λ a b zero. none_differ (enum_at old a) (enum_at new b) zero j;
-    }
+numbers_are_alike old new = search (rules, all_alike, none_differ)

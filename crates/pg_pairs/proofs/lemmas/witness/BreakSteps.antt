@@ -1,5 +1,5 @@
 -- What a message's encoding is read as decides whether it breaks.
-use Rattle.std.proofs.Common.{◌≡◌, ◌<◌, ◌≤◌, ◌↔◌, ℕ, zero, suc, List, [], ◌∷◌, ◌++◌, length, get_or, filter, Bool, true, false, not, IsTrue, nat_eq, Option, Some, None, refl, ap, ap₂, sym, ◌∙◌, subst, arith, eqb-true, eq-eqb, true≢false}
+use Rattle.std.proofs.Common.{◌≡◌, ◌<◌, ◌≤◌, ◌↔◌, ℕ, zero, suc, List, [], ◌∷◌, ◌++◌, length, get_or, filter, Bool, true, false, not, IsTrue, nat_eq, Some, None, refl, ap, ap₂, sym, ◌∙◌, subst, arith, eqb-true, eq-eqb, true≢false, rules}
 use Rattle.std.specs.List.{list_all}
 use Rattle.std.proofs.lemmas.Bool.{not-true}
 use Rattle.pg_schema.specs.declared.parts.field.TypeId.{TypeId}
@@ -23,16 +23,10 @@ use Rattle.pg_dyn.proofs.PublicLaws.{decoding_is, encoding_spells, kept_by_field
 -- ---- types
 
 pub same_type : (s t : TypeId) (differ : Bool) → differ ≡ not (nat_eq s.index t.index) → differ ≡ false → s ≡ t
-same_type s t differ is h = ap (λ index. record { index = index }) (eqb-true s.index t.index (agree (nat_eq s.index t.index) (sym is ∙ h)))
-  where
-    agree : (b : Bool) → not b ≡ false → b ≡ true
-    agree true k = refl
-    agree false k = absurd (cc)
+same_type s t differ is h = search (rules, eqb-true)
 
 pub other_type : (s t : TypeId) (differ : Bool) → differ ≡ not (nat_eq s.index t.index) → differ ≡ true → s ≡ t → ⊥
-other_type s t differ is h same =
-    let agree = eq-eqb s.index t.index (ap (λ (x : TypeId). x.index) same) in
-    true≢false (sym h ∙ is ∙ ap not agree)
+other_type s t differ is h same = search (rules, eq-eqb, true≢false)
 
 -- ---- a type that isn't there keeps everything
 
@@ -77,27 +71,17 @@ module _ (view : View) (old new : Shape) (m : Kept) (a b : TypeId) where
   Answers so = IsTrue so ↔ ((type_of m ≡ a) × Breaks view old new a b (message_of m))
 
   pub answered : (x : Bool) → type_of m ≡ a → Fits old m → kept_parts.IsPlain m → length (enc old (type_of m) (message_of m)) ≤ cap → is_kept view old new (type_of m) b (message_of m) ≡ x → Answers (not x)
-  answered x type_is fits plain short is = (
-    λ e.
-        subst (λ t. (type_of m ≡ t) × Breaks view old new t b (message_of m)) type_is
-        (refl, record { is_message = fits.is_message; is_plain = (plain_is_kept m).0 plain; has_encoding = short; not_kept = is ∙ not-true x e }),
-    λ k. ap not (sym is ∙ subst (λ t. is_kept view old new t b (message_of m) ≡ false) (sym type_is) k.1.not_kept),
-  )
+  answered x type_is fits plain short is = search (rules, plain_is_kept, not-true)
 
   pub of_read : (read : Kept) (x : Bool) → x ≡ same view old new (type_of m) (type_of read) (message_of m) (message_of read) → type_of read ≡ b → dec new b (enc old (type_of m) (message_of m)) ≡ Some (message_of read) → is_kept view old new (type_of m) b (message_of m) ≡ x
-  of_read read x is type_is found =
-      kept_is view old new (type_of m) b (message_of m) (message_of read) found
-      ∙ ap (λ t. same view old new (type_of m) t (message_of m) (message_of read)) (sym type_is)
-      ∙ sym is
+  of_read read x is type_is found = search (rules, kept_is)
 
 -- ---- what is read of a message's own encoding is the message
 
 module _ (again : ReadsAgain) (old : Shape) (is_shape : IsShape old) (m lent : Kept) (fits : Fits old m) (short : length (enc old (type_of m) (message_of m)) ≤ cap)
     (bytes : List ℕ) (written : bytes ≡ enc old (type_of m) (message_of m)) (t : TypeId) (of_type : t ≡ type_of m) (read : dec old t bytes ≡ Some (message_of lent)) (type_is : type_of lent ≡ t) where
   lent_message : message_of lent ≡ message_of m
-  lent_message =
-      let both : ◌≡◌ {A = Option Message} (Some (message_of lent)) (Some (message_of m)) =
-      sym read ∙ ap (dec old t) written ∙ ap (λ u. dec old u (enc old (type_of m) (message_of m))) of_type ∙ again old (type_of m) (message_of m) is_shape fits.is_message short in cc
+  lent_message = search rules
 
   lent_bytes : enc old (type_of lent) (message_of lent) ≡ enc old (type_of m) (message_of m)
   lent_bytes = ap₂ (λ u x. enc old u x) (type_is ∙ of_type) lent_message
@@ -109,13 +93,9 @@ module _ (again : ReadsAgain) (old : Shape) (is_shape : IsShape old) (m lent : K
   lent_within = subst (λ (xs : List ℕ). length xs ≤ cap) (sym lent_bytes) short
 
   pub lent_answers : (view : View) (new : Shape) (a b : TypeId) (so : Bool) → Answers view old new lent a b so → Answers view old new m a b so
-  lent_answers view new a b so h =
-      subst (λ u. IsTrue so ↔ ((u ≡ a) × Breaks view old new a b (message_of m))) (type_is ∙ of_type)
-      (subst (λ x. IsTrue so ↔ ((type_of lent ≡ a) × Breaks view old new a b x)) lent_message h)
+  lent_answers view new a b so h = search (rules, lent_message)
 
 -- ---- an encoding is read
 
 pub unread_never : (again : ReadsAgain) (old : Shape) → IsShape old → (m : Kept) → Fits old m → length (enc old (type_of m) (message_of m)) ≤ cap → (bytes : List ℕ) → bytes ≡ enc old (type_of m) (message_of m) → (t : TypeId) → t ≡ type_of m → dec old t bytes ≡ None → ⊥
-unread_never again old is_shape m fits short bytes written t of_type none =
-    let clash : ◌≡◌ {A = Option Message} None (Some (message_of m)) =
-    sym none ∙ ap (dec old t) written ∙ ap (λ u. dec old u (enc old (type_of m) (message_of m))) of_type ∙ again old (type_of m) (message_of m) is_shape fits.is_message short in absurd (cc)
+unread_never again old is_shape m fits short bytes written t of_type none = search rules

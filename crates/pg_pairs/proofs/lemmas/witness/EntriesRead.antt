@@ -1,5 +1,5 @@
 -- What an entry is read as, where its key or its value isn't the one that was written.
-use Rattle.std.proofs.Common.{◌≡◌, ℕ, ◌<◌, ◌^◌, List, [], ◌∷◌, ◌++◌, length, map, filter, true, false, ◌&&◌, Option, Some, None, option_map, option_and_then, ◌⊎◌, ⊎_elim, refl, ap, sym, ◌∙◌, subst, append-nil}
+use Rattle.std.proofs.Common.{◌≡◌, ℕ, ◌<◌, ◌^◌, List, [], ◌∷◌, ◌++◌, length, map, filter, true, false, ◌&&◌, Option, Some, None, option_map, option_and_then, ◌⊎◌, refl, ap, sym, ◌∙◌, subst, append-nil, rules}
 use Rattle.std.proofs.lemmas.Bool.{and_left, and_right, cases_Bool}
 use Rattle.pg_schema.specs.declared.parts.field.TypeId.{TypeId}
 use Rattle.pg_schema.specs.declared.parts.field.Scalar.{Scalar}
@@ -9,10 +9,10 @@ use Rattle.pg_schema.specs.declared.parts.field.Presence.TheVariants as presence
 use Rattle.pg_schema.specs.Shape.{FieldShape}
 use Rattle.pg_wire.specs.declared.record.WireType.TheVariants.{Len}
 use Rattle.pg_wire.specs.Records.{WireRecord, written}
-use Rattle.pg_dyn.specs.reading.Optional.{all_some, first_or, last_of, joined}
+use Rattle.pg_dyn.specs.reading.Optional.{all_some, first_or, joined}
 use Rattle.pg_dyn.specs.message.Message.{Leaf, Bytes, Item, Part, leaf_eq}
 use Rattle.pg_dyn.specs.word.Coding.{form, form_wire, body, leaf_in, zero_leaf}
-use Rattle.pg_dyn.specs.reading.Content.{same_wire, last_item, takes, option_from, key_field, value_field, entry_part, entry_in, by_key, content}
+use Rattle.pg_dyn.specs.reading.Content.{same_wire, last_item, takes, key_field, value_field, entry_part, entry_in, by_key, content}
 use Rattle.pg_dyn.specs.encoding.Writing.{entry_bytes, key_of, field_records}
 use Rattle.pg_dyn.specs.reading.Decoding.{Reader, read_item, read_part}
 use Rattle.pg_dyn.specs.views.Comparison.{View, is_zero_expected, hides_zero, same_key, matches, Comparand, writes}
@@ -27,18 +27,12 @@ use Rattle.pg_dyn.proofs.Lists.{and_then_some, option_map_some}
 
 -- what a function gives of one argument
 single_some : {A B : Type 0} (g : A → Option B) (x : A) (ys : List B) → all_some (map g (x ∷ [])) ≡ Some ys → (y : B) × (g x ≡ Some y) × (y ∷ [] ≡ ys)
-single_some {A} {B} g x ys h =
-    let (y, here, rest) = and_then_some (λ z. option_map (λ zs. z ∷ zs) (Some [])) (g x) ys h in
-    let same : y ∷ [] ≡ ys = cc in
-    (y, here, same)
+single_some {A} {B} g x ys h = search (rules, and_then_some)
 
 -- Each reading of the entry has another key, or a value that isn't the one expected.
 pub entry_broken : (view : View) (child : Reader) (f g : FieldShape) (k l : Scalar) → f.presence ≡ presences.Map k → g.presence ≡ presences.Map l → (c : Comparand) (key : Leaf) → c.key ≡ Some key → c.number ≡ f.number → (hides_zero f g && is_zero_expected c.expected) ≡ false → ((x y : Leaf) → entry_in l g.element (written f.number Len (entry_bytes k f.element (key_of k (writes c)) c.written)) ≡ Some (x, y) → (leaf_eq key x ≡ false) ⊎ ((item : Item) → read_item child g.element y ≡ Some item → matches view f g c.expected item ≡ false)) → is_field_kept view child f g (c ∷ []) ≡ false
 entry_broken view child f g k l is_old is_new c key key_is number visible other =
-    ⊎_elim
-    (λ taken. one_unkept view child f g c number visible (λ qs h. of qs taken (sym (ap (field_read child g) records) ∙ h)))
-    (λ untaken. untaken_broken view child f g c the_record records untaken number visible)
-    (cases_Bool (takes g the_record))
+    search (rules, one_unkept, of, records, untaken_broken, the_record, cases_Bool)
   where
     the_record : WireRecord
     the_record = written f.number Len (entry_bytes k f.element (key_of k (writes c)) c.written)
@@ -47,10 +41,7 @@ entry_broken view child f g k l is_old is_new c key key_is number visible other 
     records = (is_map child f k is_old).records_are (writes c ∷ [])
 
     part_fails : (x y : Leaf) → (leaf_eq key x ≡ false) ⊎ ((item : Item) → read_item child g.element y ≡ Some item → matches view f g c.expected item ≡ false) → (q : Part Item) → read_part child g.element (record { number = g.number; key = Some x; item = y }) ≡ Some q → (same_key c.key q.key && matches view f g c.expected q.item) ≡ false
-    part_fails x y fails q h =
-        let (item, item_is, made) = option_map_some (λ (i : Item). record { number = g.number; key = Some x; item = i }) (read_item child g.element y) q h in
-        subst (λ (z : Part Item). (same_key c.key z.key && matches view f g c.expected z.item) ≡ false) made
-        (⊎_elim (λ differs. and_left (same_key c.key (Some x)) (matches view f g c.expected item) (rw key_is differs)) (λ unmet. and_right (same_key c.key (Some x)) (matches view f g c.expected item) (unmet item item_is)) fails)
+    part_fails x y fails q h = search (rules, option_map_some, and_left, and_right)
 
     of : (qs : List (Part Item)) → takes g the_record ≡ true → field_read child g (the_record ∷ []) ≡ Some qs → NoneMatches view f g c qs
     of qs taken h =
@@ -70,19 +61,11 @@ module _ (k l : Scalar) (e d : Element) (key value : Leaf) (key_reads : Reads (f
   pub entry_parts : (number : ℕ) → length (entry_bytes k e key value) < 2 ^ 64 → (x y : Leaf) → entry_in l d (written number Len (entry_bytes k e key value)) ≡ Some (x, y) → (entry_part (key_field l) records ≡ Some x) × (entry_part (value_field d) records ≡ Some y)
   unfolding written
   entry_parts number short x y h =
-      let found : option_and_then (λ rs. option_and_then (λ a. option_map (λ b. (a, b)) (entry_part (value_field d) rs)) (entry_part (key_field l) rs)) (Some records) ≡ Some (x, y) =
-      ap (λ r. option_and_then (λ rs. option_and_then (λ a. option_map (λ b. (a, b)) (entry_part (value_field d) rs)) (entry_part (key_field l) rs)) (option_from r)) (sym (entry_records k e key value key_reads value_reads nested short)) ∙ h in
-      let (a, key_is, rest) = and_then_some (λ a. option_map (λ b. (a, b)) (entry_part (value_field d) records)) (entry_part (key_field l) records) (x, y) found in
-      let (b, value_is, pair_is) = option_map_some (λ (b : Leaf). (a, b)) (entry_part (value_field d) records) (x, y) rest in
-      (key_is ∙ ap (λ (p : Leaf × Leaf). Some p.0) pair_is, value_is ∙ ap (λ (p : Leaf × Leaf). Some p.1) pair_is)
+      search (rules, option_and_then, entry_records, and_then_some, option_map_some)
 
   pub like_key_read : same_wire (form_wire (form (elements.Scalar k))) (form_wire (form (elements.Scalar l))) ≡ true → (x : Leaf) → entry_part (key_field l) records ≡ Some x → leaf_in (form (elements.Scalar l)) (body (form (elements.Scalar k)) key) ≡ Some x
   unfolding two_records written
-  like_key_read wires x h = of (leaf_in (form (elements.Scalar l)) (body (form (elements.Scalar k)) key)) (rw (wires, wires) at h)
-    where
-      of : (o : Option Leaf) → option_map (first_or (zero_leaf (form (elements.Scalar l)))) (option_map (λ (rows : List (List Leaf)). last_of (joined rows)) (option_and_then (λ y. option_map (λ ys. y ∷ ys) (Some [])) (option_map (λ leaf. leaf ∷ []) o))) ≡ Some x → o ≡ Some x
-      of (Some y) g = g
-      of None g = absurd (cc)
+  like_key_read wires x h = search (rules, option_and_then)
 
   leafy_value : (x : Element) → IsLeafy x → (y : Leaf) (o : Option Leaf) → option_map (first_or (zero_leaf (form x))) (option_map (λ (rows : List (List Leaf)). last_item presences.Explicit x (joined rows)) (option_and_then (λ z. option_map (λ zs. z ∷ zs) (Some [])) (option_map (λ leaf. leaf ∷ []) o))) ≡ Some y → o ≡ Some y
   leafy_value (elements.Scalar s) leafy y (Some z) h = h

@@ -1,5 +1,5 @@
 -- Two fields that come into one new oneof: their least contents together break.
-use Rattle.std.proofs.Common.{◌≡◌, ℕ, ◌+◌, ◌<◌, ◌≤◌, List, [], ◌∷◌, ◌++◌, length, map, filter, Bool, true, false, not, ◌&&◌, nat_eq, cond, Option, Some, option_and_then, Ok, inl, ⊎_elim, refl, ap, ap₂, sym, ◌∙◌, subst, subst₂, arith, eqb-true, eq-eqb, ne_eqb, append-nil, length-append}
+use Rattle.std.proofs.Common.{◌≡◌, ℕ, ◌+◌, ◌<◌, ◌≤◌, List, [], ◌∷◌, ◌++◌, length, map, filter, Bool, true, false, not, ◌&&◌, nat_eq, cond, Option, Some, option_and_then, inl, ⊎_elim, refl, ap, ap₂, sym, ◌∙◌, subst, subst₂, arith, eqb-true, eq-eqb, ne_eqb, append-nil, length-append, rules}
 use Rattle.std.specs.Bool.{⊤}
 use Rattle.std.specs.List.{AllByRecursion, list_any}
 use Rattle.std.proofs.lemmas.Bool.{and_from, and_left, or_left, or_right, cases_Bool, false_from_ne_true}
@@ -14,7 +14,7 @@ use Rattle.pg_wire.specs.Records.{WireRecord}
 use Rattle.pg_dyn.specs.reading.Optional.{all_some, after_last_of}
 use Rattle.pg_dyn.specs.message.Message.{Leaf, Bytes, Item, Message, ends, places, IsPlain, Part, is_of, is_zero, parts, unknown_of}
 use Rattle.pg_dyn.specs.word.Coding.{form, InRange}
-use Rattle.pg_dyn.specs.reading.Content.{takes, is_sibling, same_oneof, counted, content, option_from}
+use Rattle.pg_dyn.specs.reading.Content.{takes, is_sibling, same_oneof, counted, content}
 use Rattle.pg_dyn.specs.encoding.Writing.{field_records, records_in, bytes_of}
 use Rattle.pg_dyn.specs.encoding.Encoding.{child_type, encoded_parts, enc, cap}
 use Rattle.pg_dyn.specs.reading.Decoding.{Reader, read_part, field_parts, read_records, dec}
@@ -101,9 +101,7 @@ module _ (view : View) (old new : Shape) (a b : TypeId) where
 -- a part of a lower number writes nothing
 without : (fs : List FieldShape) (p : Part Leaf) (ps : List (Part Leaf)) → AllByRecursion (λ g. p.number < g.number) fs → records_in fs (p ∷ ps) ≡ records_in fs ps
 without [] p ps h = refl
-without (g ∷ fs) p ps h =
-    let out : nat_eq p.number g.number ≡ false = ne_eqb p.number g.number (λ k. omega (arith, h.0)) in
-    ap₂ (λ xs ys. xs ++ ys) (ap (field_records g) (rw out)) (without fs p ps h.1)
+without (g ∷ fs) p ps h = search (rules, without fs p ps h.1, ne_eqb)
 
 -- The records of two parts.
 pub two_records : (fs : List FieldShape) → Rising fs → (f e : FieldShape) (p q : Part Leaf) → p.number ≡ f.number → q.number ≡ e.number → f.number < e.number → field_at fs f.number ≡ Some f → field_at fs e.number ≡ Some e → records_in fs (p ∷ q ∷ []) ≡ field_records f (p ∷ []) ++ field_records e (q ∷ [])
@@ -126,9 +124,7 @@ two_records (x ∷ fs) rising f e p q at_p at_q below found_f found_e =
     ] refl found_f
   where
     later_than : (n : ℕ) (g : FieldShape) → (x.number ≡ n → ⊥) → field_at (x ∷ fs) n ≡ Some g → field_at fs n ≡ Some g
-    later_than n g apart found =
-        elim (nat_eq x.number n) as (λ c. nat_eq x.number n ≡ c → cond c (Some x) (field_at fs n) ≡ Some g → field_at fs n ≡ Some g)
-        [ true ↦ λ k h. absurd (apart (eqb-true x.number n k)) | false ↦ λ k h. h ] refl found
+    later_than n g apart found = search (rules, eqb-true)
 
 -- Lists.
 
@@ -263,8 +259,7 @@ module _ (enum_view : EnumView) (old new : Shape) (shape_old : IsShape old) (sha
 
   records_are : records_in fs (encoded_parts old pair.old v) ≡ first_records ++ second_records
   records_are =
-      ap (records_in fs) (sym (comparands_are_written enum_view.alike old new pair.old pair.new v) ∙ ap (map writes) comparands_two)
-      ∙ two_records fs (fields_are_found.0 old pair.old shape_old).rising f e (writes comparand_f.comparand) (writes comparand_e.comparand) comparand_f.number_is comparand_e.number_is below found_f found_e
+      search (rules, comparands_are_written, comparands_two, two_records, fields_are_found, comparand_f, comparand_e)
 
   nothing_unknown : unknown_of v ≡ []
   nothing_unknown = no_unknown f.presence e.presence f.element e.element
@@ -272,11 +267,7 @@ module _ (enum_view : EnumView) (old new : Shape) (shape_old : IsShape old) (sha
   length_is : length (enc old pair.old v) ≡ least_content f + least_content e
   unfolding enc
   length_is =
-      ap₂ (λ xs us. length (bytes_of xs ++ bytes_of us)) records_are nothing_unknown
-      ∙ ap length (append-nil (bytes_of (first_records ++ second_records)))
-      ∙ ap length (flat_map-append' (λ (r : WireRecord). r.bytes) first_records second_records)
-      ∙ length-append (bytes_of first_records) (bytes_of second_records)
-      ∙ ap₂ (λ m n. m + n) (least_total f (fits_old f found_f) comparand_f.comparand comparand_f.key_is comparand_f.written_is) (least_total e (fits_old e found_e) comparand_e.comparand comparand_e.key_is comparand_e.written_is)
+      search (rules, records_are, nothing_unknown, append-nil, flat_map-append', length-append, least_total, fits_old, comparand_f, comparand_e)
 
   comparands_of_f : comparands_at f.number (comparands enum_view.alike old new pair.old pair.new v) ≡ comparand_f.comparand ∷ []
   comparands_of_f = ap (comparands_at f.number) comparands_two ∙ rw (eq-eqb comparand_f.comparand.number f.number comparand_f.number_is, ne_eqb comparand_e.comparand.number f.number (λ k. let at = comparand_e.number_is in omega arith))
@@ -301,10 +292,7 @@ module _ (enum_view : EnumView) (old new : Shape) (shape_old : IsShape old) (sha
 
   -- records of another number aren't taken
   not_taken : (x y : FieldShape) (c : Comparand) → (x.number ≡ y.number → ⊥) → AllByRecursion (λ r. takes x r ≡ false) (field_records y (writes c ∷ []))
-  not_taken x y c apart =
-      each_weaker (λ (r : WireRecord). r.number ≡ y.number) (λ r. takes x r ≡ false)
-      (λ r at. ⊎_elim (λ taken. absurd (apart (sym (eqb-true r.number x.number (records_of_fields.2 x r taken)) ∙ at))) (λ no. no) (cases_Bool (takes x r)))
-      (field_records y (writes c ∷ [])) (records_of_fields.0 y (writes c ∷ []))
+  not_taken x y c apart = search (rules, each_weaker, eqb-true, records_of_fields, cases_Bool)
 
   -- the second field's record is taken: then the first one is cleared
   first_cleared : list_any (takes h) second_records ≡ true → counted gs g (first_records ++ second_records) ≡ []
@@ -337,22 +325,14 @@ module _ (enum_view : EnumView) (old new : Shape) (shape_old : IsShape old) (sha
 
   read_is : length (enc old pair.old v) ≤ cap → dec new pair.new (enc old pair.old v) ≡ read_records (dec new) gs (first_records ++ second_records)
   read_is small =
-      decoding_is new pair.new (enc old pair.old v)
-      ∙ ap (λ x. option_and_then (read_records (dec new) gs) (option_from x))
-      (encoding_spells old pair.old v shape_old is (omega arith) ∙ ap Ok (ap₂ (λ xs us. xs ++ us) records_are nothing_unknown ∙ append-nil (first_records ++ second_records)))
+      search (rules, decoding_is, option_and_then, encoding_spells, is, records_are, nothing_unknown, append-nil)
 
   is_plain : IsPlain v
   is_plain = plain f.presence e.presence f.element e.element
 
   broken : length (enc old pair.old v) ≤ cap → is_kept enum_view.alike old new pair.old pair.new v ≡ false
-  broken small =
-      false_from_ne_true (is_kept enum_view.alike old new pair.old pair.new v)
-      (λ kept.
-      let (w, read, shows) = (kept_by_field enum_view.alike old new pair.old pair.new v shape_old shape_new is is_plain small).0 kept in
-      not_shown w (sym (read_is small) ∙ read) shows)
+  broken small = search (rules, false_from_ne_true, kept_by_field, is, is_plain, not_shown, read_is)
 
   -- Case 6: the sum of the least contents is reached.
   pub reach_meeting : least_content f + least_content e ≤ cap → ReachedBy enum_view old new pair (least_part f (least_part e (ends []))) (least_content f + least_content e)
-  reach_meeting small =
-      let short : length (enc old pair.old v) ≤ cap = subst (λ n. n ≤ cap) (sym length_is) small in
-      (record { is_message = is; is_plain = is_plain; has_encoding = short; not_kept = broken short }, length_is)
+  reach_meeting small = search (rules, length_is, is, is_plain, broken)

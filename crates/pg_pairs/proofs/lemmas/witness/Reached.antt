@@ -1,5 +1,5 @@
 -- Each choice of a pair is reached, by its own message, if the smaller bounds in the table are.
-use Rattle.std.proofs.Common.{◌≡◌, ℕ, ◌+◌, ◌<◌, List, [], ◌∷◌, ◌++◌, length, filter, Bool, true, false, not, cond, nat_le, if◌then◌else◌, Option, Some, None, refl, ap, sym, ◌∙◌, subst, subst₂}
+use Rattle.std.proofs.Common.{◌≡◌, ℕ, ◌+◌, ◌<◌, List, [], ◌∷◌, length, filter, true, false, nat_le, if◌then◌else◌, Option, Some, None, refl, ap, sym, ◌∙◌, subst, subst₂, rules}
 use Rattle.std.specs.List.{AllByRecursion}
 use Rattle.std.proofs.lemmas.Bool.{and_parts, leb-true, not-true}
 use Rattle.pg_schema.specs.Shape.{Shape, FieldShape, fields, field_at}
@@ -14,7 +14,7 @@ use Rattle.pg_pairs.specs.declared.choices.choice.Pair.{Pair}
 use Rattle.pg_pairs.specs.views.EnumView.{EnumView}
 use Rattle.pg_pairs.specs.views.ViewLaws.{IsEnumView}
 use Rattle.pg_pairs.specs.choices.Costs.{least_content}
-use Rattle.pg_pairs.specs.choices.Choices.{is_oneof, Table, choice, field_choices, in_one_oneof, joins, joined_choices, choices_beside, all_choices, choices}
+use Rattle.pg_pairs.specs.choices.Choices.{is_oneof, Table, choice, field_choices, joins, joined_choices, choices_beside, all_choices, choices}
 use Rattle.pg_pairs.specs.bounds.Covering.{IsAmong}
 use Rattle.pg_pairs.specs.bounds.Laws.{ReachedBy, IsReached, ChoicesReached}
 use Rattle.pg_pairs.specs.witness.Carried.{carried_field, carried_two, carried_of, carried, field_child, child_of, choice_child}
@@ -61,41 +61,19 @@ module _ (enum_view : EnumView) (law : IsEnumView enum_view) (old new : Shape) (
       (presences_carried enum_view law old new shape_old shape_new table pair f.number f.element g.element f.oneof g.oneof f.presence g.presence found (at ∙ ap Some same) (fits_old f.number f found) (fits_new f.number g at))
 
   own_made : (f g : FieldShape) → field_at (fields old pair.old) f.number ≡ Some f → field_at (fields new pair.new) f.number ≡ Some g → (c : Choice) → c.number ≡ f.number → is_oneof c.case ≡ false → IsCarried enum_view law old new shape_old shape_new table pair (field_child f g c.case c.part) (carried_field enum_view f g c.case c.part) c.cost → IsCarried enum_view law old new shape_old shape_new table pair (choice_child old new pair c) (carried enum_view old new pair c) c.cost
-  own_made f g found at c number single h =
-      let old_is : field_at (fields old pair.old) c.number ≡ Some f = ap (field_at (fields old pair.old)) number ∙ found in
-      let new_is : field_at (fields new pair.new) c.number ≡ Some g = ap (field_at (fields new pair.new)) number ∙ at in
-      subst₂ (λ x y. IsCarried enum_view law old new shape_old shape_new table pair (child_of x y c) (carried_of enum_view x y (field_at (fields old pair.old) c.part) c) c.cost) (sym old_is) (sym new_is)
-      (subst (λ (b : Bool). IsCarried enum_view law old new shape_old shape_new table pair (field_child f g c.case c.part) (λ child. if b then carried_two f (field_at (fields old pair.old) c.part) else carried_field enum_view f g c.case c.part child) c.cost) (sym single) h)
+  own_made f g found at c number single h = search rules
 
   abbrev IsOwn : FieldShape → FieldShape → Choice → Type 0
   IsOwn f g c = CarriesOwn enum_view law old new shape_old shape_new table pair f g c × IsPlaced f.presence c
 
   own_carried : (f g : FieldShape) → field_at (fields old pair.old) f.number ≡ Some f → field_at (fields new pair.new) f.number ≡ Some g → (c : Choice) → IsOwn f g c → CarriesChoice c
-  own_carried f g found at c ((number, single, h), is_placed) =
-      let not_two : is_oneof c.case ≡ true → ⊥ = λ six. let no : true ≡ false = sym six ∙ single in cc in
-      (λ six. absurd (not_two six), stands not_two, own_made f g found at c number single h)
-    where
-      stands : (is_oneof c.case ≡ true → ⊥) → Stands c
-      stands not_two = record {
-        field = f;
-        beside = g;
-        found = ap (field_at (fields old pair.old)) number ∙ found;
-        at = ap (field_at (fields new pair.new)) number ∙ at;
-        placed = is_placed;
-        second = λ six. absurd (not_two six);
-      }
+  own_carried f g found at c ((number, single, h), is_placed) = search (rules, own_made, placed)
 
   own_each : (f g : FieldShape) → field_at (fields old pair.old) f.number ≡ Some f → field_at (fields new pair.new) f.number ≡ Some g → AllByRecursion (IsOwn f g) (field_choices enum_view table f g)
-  own_each f g found at =
-      each_both (CarriesOwn enum_view law old new shape_old shape_new table pair f g) (IsPlaced f.presence) (field_choices enum_view table f g) (field_carried f g found at)
-      (placed enum_view table f g)
+  own_each f g found at = search (rules, each_both, field_carried, placed)
 
   beside_carried : (f : FieldShape) → field_at (fields old pair.old) f.number ≡ Some f → AllByRecursion CarriesChoice (choices_beside enum_view table f (field_at (fields new pair.new) f.number))
-  beside_carried f found = of (field_at (fields new pair.new) f.number) refl
-    where
-      of : (o : Option FieldShape) → field_at (fields new pair.new) f.number ≡ o → AllByRecursion CarriesChoice (choices_beside enum_view table f o)
-      of (Some g) at = each_weaker (IsOwn f g) CarriesChoice (own_carried f g found at) (field_choices enum_view table f g) (own_each f g found at)
-      of None at = tt
+  beside_carried f found = search (rules, each_weaker, own_carried, own_each)
 
   -- two fields in one new oneof
   record Meet (a b : FieldShape) : Type 0 where
@@ -107,14 +85,7 @@ module _ (enum_view : EnumView) (law : IsEnumView enum_view) (old new : Shape) (
     not_old : same_oneof a.oneof b.oneof ≡ false
 
   meet : (a b : FieldShape) → joins (fields new pair.new) a b ≡ true → Meet a b
-  meet a b h =
-      let (apart, together) = and_parts (not (same_oneof a.oneof b.oneof)) (in_one_oneof (field_at (fields new pair.new) a.number) (field_at (fields new pair.new) b.number)) h in
-      of (field_at (fields new pair.new) a.number) (field_at (fields new pair.new) b.number) refl refl (not-true (same_oneof a.oneof b.oneof) apart) together
-    where
-      of : (x y : Option FieldShape) → field_at (fields new pair.new) a.number ≡ x → field_at (fields new pair.new) b.number ≡ y → same_oneof a.oneof b.oneof ≡ false → in_one_oneof x y ≡ true → Meet a b
-      of (Some g) (Some k) at_g at_k apart together = record { first = g; second = k; at_first = at_g; at_second = at_k; one = together; not_old = apart }
-      of (Some g) None at_g at_k apart together = absurd (cc)
-      of None y at_g at_k apart together = absurd (cc)
+  meet a b h = search (rules, and_parts, not-true)
 
   meeting_carried : (a b : FieldShape) → field_at (fields old pair.old) a.number ≡ Some a → field_at (fields old pair.old) b.number ≡ Some b → joins (fields new pair.new) a b ≡ true → a.number < b.number → CarriesChoice (choice a.number cases.Oneof b.number (least_content a + least_content b))
   meeting_carried a b found_a found_b h below = (apart, stands, made)
@@ -126,21 +97,10 @@ module _ (enum_view : EnumView) (law : IsEnumView enum_view) (old new : Shape) (
       c = choice a.number cases.Oneof b.number (least_content a + least_content b)
 
       apart : AreApart c
-      apart six = (
-        below,
-        λ f e at_f at_e.
-            subst₂ (λ (x y : FieldShape). same_oneof x.oneof y.oneof ≡ false) (one_found (fields old pair.old) a.number a f found_a at_f) (one_found (fields old pair.old) b.number b e found_b at_e) m.not_old,
-      )
+      apart six = search (rules, one_found, m)
 
       stands : Stands c
-      stands = record {
-        field = a;
-        beside = m.first;
-        found = found_a;
-        at = m.at_first;
-        placed = tt;
-        second = λ six. (b, found_b);
-      }
+      stands = search (rules, m, placed)
 
       made : IsCarried enum_view law old new shape_old shape_new table pair (choice_child old new pair c) (carried enum_view old new pair c) c.cost
       made small =
@@ -164,10 +124,7 @@ module _ (enum_view : EnumView) (law : IsEnumView enum_view) (old new : Shape) (
   all_carried : (later : List FieldShape) → AllByRecursion (λ x. field_at (fields old pair.old) x.number ≡ Some x) later → Rising later → AllByRecursion CarriesChoice (all_choices enum_view table (fields new pair.new) later)
   all_carried [] each rising = tt
   all_carried (f ∷ later) each rising =
-      each-append CarriesChoice (choices_beside enum_view table f (field_at (fields new pair.new) f.number) ++ joined_choices (fields new pair.new) f later) (all_choices enum_view table (fields new pair.new) later)
-      (each-append CarriesChoice (choices_beside enum_view table f (field_at (fields new pair.new) f.number)) (joined_choices (fields new pair.new) f later)
-      (beside_carried f each.0) (joined_carried f each.0 later each.1 rising.0))
-      (all_carried later each.1 rising.1)
+      search (rules, all_carried later each.1 rising.1, each-append, beside_carried, joined_carried)
 
   -- what is known of a choice that an encoding may have
   abbrev Known : Choice → Type 0
@@ -177,9 +134,7 @@ module _ (enum_view : EnumView) (law : IsEnumView enum_view) (old new : Shape) (
 
   kept_each : (cs : List Choice) → AllByRecursion CarriesChoice cs → AllByRecursion Known (filter (λ (c : Choice). nat_le c.cost cap) cs)
   kept_each [] h = tt
-  kept_each (c ∷ cs) h =
-      elim (nat_le c.cost cap) as (λ b. nat_le c.cost cap ≡ b → AllByRecursion Known (cond b (c ∷ filter (λ (c : Choice). nat_le c.cost cap) cs) (filter (λ (c : Choice). nat_le c.cost cap) cs)))
-      [ true ↦ λ e. (let (there, made) = h.0.2 (leb-true c.cost cap e) in (h.0.0, h.0.1, there, made), kept_each cs h.1) | false ↦ λ e. kept_each cs h.1 ] refl
+  kept_each (c ∷ cs) h = search (rules, kept_each cs h.1, leb-true)
 
   pub choice_known : (c : Choice) → IsAmong c (choices enum_view table old new pair) → Known c
   choice_known c among =

@@ -1,5 +1,5 @@
 -- A field shows what the definitions say where its items meet.
-use Rattle.std.proofs.Common.{◌≡◌, ℕ, Bor, List, [], ◌∷◌, map, filter, Bool, true, false, not, ◌&&◌, ◌||◌, cond, nat_eq, Option, Some, None, option_map, IfSome, MatchOption, refl, ap, ap₂, sym, ◌∙◌, subst, true≢false}
+use Rattle.std.proofs.Common.{◌≡◌, ℕ, Bor, List, [], ◌∷◌, map, filter, Bool, true, false, not, ◌&&◌, Option, Some, None, option_map, IfSome, MatchOption, refl, ap, ap₂, sym, ◌∙◌, subst, true≢false, rules}
 use Rattle.std.specs.Bool.{⊤}
 use Rattle.std.specs.List.{AllByRecursion}
 use Rattle.std.specs.Option.{option_copied}
@@ -11,14 +11,14 @@ use Rattle.pg_schema.specs.declared.parts.field.Presence.{Presence}
 use Rattle.pg_schema.specs.declared.parts.field.Presence.TheVariants as presences
 use Rattle.pg_schema.specs.declared.parts.Parts.{Parts}
 use Rattle.pg_schema.specs.Parts.{shape_of}
-use Rattle.pg_schema.specs.Shape.{Shape, FieldShape, fields, field_at, is_implicit, is_repeated, is_singular}
+use Rattle.pg_schema.specs.Shape.{Shape, FieldShape, fields, field_at, is_repeated, is_singular}
 use Rattle.pg_schema.specs.ShapeRules.{IsShape}
 use Rattle.pg_dyn.specs.declared.message_ref.ContentRef.{ContentRef}
 use Rattle.pg_dyn.specs.declared.message_ref.ContentRef.TheVariants as contents
 use Rattle.pg_dyn.specs.declared.message_ref.EntryRef.{EntryRef}
 use Rattle.pg_dyn.specs.declared.message_ref.ValueRef.{ValueRef}
 use Rattle.pg_dyn.specs.declared.message_ref.ValueRef.TheVariants as values
-use Rattle.pg_dyn.specs.message.Message.{Item, Leaf, Part, is_zero, parts}
+use Rattle.pg_dyn.specs.message.Message.{Item, Leaf, Part, parts}
 use Rattle.pg_dyn.specs.message.Message as model
 use Rattle.pg_dyn.specs.message.Kept.{Kept, Manner, type_of, message_of}
 use Rattle.pg_dyn.specs.message.KeptParts.{KeptItem, of_number}
@@ -93,8 +93,7 @@ module _ (shape : Shape) (type : TypeId) (n : ℕ) (f : FieldShape) (found : fie
 
   -- the field that holds a part is that of its number
   its_field : (k : Option Leaf) (item : KeptItem) (h : HoldsPart shape type (record { number = n; key = k; item = item })) → h.field ≡ f
-  its_field k item h =
-      let both : ◌≡◌ {A = Option FieldShape} (Some h.field) (Some f) = sym h.found ∙ found in cc
+  its_field k item h = search rules
 
   its_item : (k : Option Leaf) (item : KeptItem) → HoldsPart shape type (record { number = n; key = k; item = item }) → HoldsItem shape f item
   its_item k item h = subst (λ (g : FieldShape). HoldsItem shape g item) (its_field k item h) h.item
@@ -146,10 +145,7 @@ module _ (shape : Shape) (m : Kept) (n : ℕ) (f : FieldShape) (is_shape : IsSha
 
   -- what is shown of what was found fits
   pub shown_fits : (o s : Option (Bor ContentRef)) (c : Bor ContentRef) → IfSome o (λ c. HasKeys c.now) → IfSome o (λ c. FitsWhereFound m n c.now) → IfSome s (λ c. option_copied o ≡ Some c.now) → s ≡ Some c → AllByRecursion (HeldFits shape f.element) (keyed c.now)
-  shown_fits o s c keys h same is =
-      let from : option_copied o ≡ Some c.now = subst (λ (x : Option (Bor ContentRef)). IfSome x (λ y. option_copied o ≡ Some y.now)) is same in
-      let there : FitsWhereFound m n c.now = copied_fact (FitsWhereFound m n) o c.now h from in
-      keyed_fits shape (type_of m) n f found c.now (copied_fact HasKeys o c.now keys from) (there shape is_shape fits)
+  shown_fits o s c keys h same is = search (rules, copied_fact, keyed_fits)
 
   keyed_found : (o : Option (Bor ContentRef)) → IfSome o (λ c. HasKeys c.now) → IfSome o (λ c. FitsWhereFound m n c.now) → AllByRecursion (HeldFits shape f.element) (keyed_if (option_copied o))
   keyed_found None keys h = tt
@@ -158,15 +154,10 @@ module _ (shape : Shape) (m : Kept) (n : ℕ) (f : FieldShape) (is_shape : IsSha
 -- where zeros are hidden, both fields are singular
 
 pub hides_first : (f g : FieldShape) → hides_zero f g ≡ true → is_singular f.presence ≡ true
-hides_first f g h =
-    elim (is_singular f.presence) as (λ a. (a && is_singular g.presence && (is_implicit f.presence || is_implicit g.presence)) ≡ true → a ≡ true) [ true ↦ λ e. refl | false ↦ λ e. e ] h
+hides_first f g h = search rules
 
 pub hides_second : (f g : FieldShape) → hides_zero f g ≡ true → is_singular g.presence ≡ true
-hides_second f g h =
-    elim (is_singular f.presence) as (λ a. (a && is_singular g.presence && (is_implicit f.presence || is_implicit g.presence)) ≡ true → is_singular g.presence ≡ true) [
-      | true ↦ elim (is_singular g.presence) as (λ b. (true && b && (is_implicit f.presence || is_implicit g.presence)) ≡ true → b ≡ true) [ true ↦ λ e. refl | false ↦ λ e. e ]
-      | false ↦ λ e. absurd (true≢false (sym e))
-    ] h
+hides_second f g h = search (rules, true≢false)
 
 pub key_lent : (o : Option (Bor ValueRef)) → IsKeyIf (option_copied o) → IfSome o (λ key. IsKey key.now)
 key_lent None h = tt
@@ -222,13 +213,7 @@ held_as : {B : Type 0} (n : ℕ) (hidden listed : Bool) (make : ℕ → KeptItem
     map (put_in make) (filter (is_shown_part hidden) (map (part_with n listed) xs)) ≡ map (put_held n from) (filter (λ (x : Keyed). not (hidden && is_zero_value x.1)) xs)
 held_as {B} n hidden listed make from [] h = refl
 held_as {B} n hidden listed make from (x ∷ xs) h =
-    let rest = held_as n hidden listed make from xs h.1 in
-    ap (λ zero. map (put_in make) (cond (not (hidden && zero)) (part_with n listed x ∷ filter (is_shown_part hidden) (map (part_with n listed) xs)) (filter (is_shown_part hidden) (map (part_with n listed) xs)))) (zero_same listed x.1)
-    ∙ elim (not (hidden && is_zero_value x.1)) as (λ b. map (put_in make) (cond b (part_with n listed x ∷ filter (is_shown_part hidden) (map (part_with n listed) xs)) (filter (is_shown_part hidden) (map (part_with n listed) xs)))
-    ≡ map (put_held n from) (cond b (x ∷ filter (λ (y : Keyed). not (hidden && is_zero_value y.1)) xs) (filter (λ (y : Keyed). not (hidden && is_zero_value y.1)) xs))) [
-      | true ↦ ap₂ (λ (item : B) (ps : List (Part B)). record { number = n; key = option_map leaf_of x.0; item = item } ∷ ps) h.0 rest
-      | false ↦ rest
-    ]
+    search (rules, held_as n hidden listed make from xs h.1, part_with, zero_same)
 
 -- ---- the two sides
 
@@ -239,27 +224,9 @@ item_read n (kept_parts.Msg listed m) = model.Msg (message_of m)
 parts_shown : (hidden : Bool) (n : ℕ) (m : Kept) → shown is_zero_item hidden n (parts (message_of m)) ≡ map (put_in item_read) (filter (is_shown_part hidden) (of_number n m))
 parts_shown hidden n (kept.ends type unknown) = refl
 parts_shown hidden n (kept.holds number key listed leaf later) =
-    let rest = parts_shown hidden n later in
-    elim (nat_eq number n) as (λ t. cond (t && not (hidden && is_zero leaf)) (record { number = number; key = key; item = model.Plain leaf } ∷ shown is_zero_item hidden n (parts (message_of later))) (shown is_zero_item hidden n (parts (message_of later)))
-    ≡ map (put_in item_read) (filter (is_shown_part hidden) (cond t (record { number = number; key = key; item = kept_parts.Plain listed leaf } ∷ of_number n later) (of_number n later)))) [
-      | true ↦ elim (not (hidden && is_zero leaf)) as (λ u. cond u (record { number = number; key = key; item = model.Plain leaf } ∷ shown is_zero_item hidden n (parts (message_of later))) (shown is_zero_item hidden n (parts (message_of later)))
-          ≡ map (put_in item_read) (cond u (record { number = number; key = key; item = kept_parts.Plain listed leaf } ∷ filter (is_shown_part hidden) (of_number n later)) (filter (is_shown_part hidden) (of_number n later)))) [
-            | true ↦ ap (λ (ps : List (Part Item)). record { number = number; key = key; item = model.Plain leaf } ∷ ps) rest
-            | false ↦ rest
-          ]
-      | false ↦ rest
-    ]
+    search (rules, parts_shown hidden n later)
 parts_shown hidden n (kept.nests number key listed child later) =
-    let rest = parts_shown hidden n later in
-    elim (nat_eq number n) as (λ t. cond (t && not (hidden && false)) (record { number = number; key = key; item = model.Msg (message_of child) } ∷ shown is_zero_item hidden n (parts (message_of later))) (shown is_zero_item hidden n (parts (message_of later)))
-    ≡ map (put_in item_read) (filter (is_shown_part hidden) (cond t (record { number = number; key = key; item = kept_parts.Msg listed child } ∷ of_number n later) (of_number n later)))) [
-      | true ↦ elim (not (hidden && false)) as (λ u. cond u (record { number = number; key = key; item = model.Msg (message_of child) } ∷ shown is_zero_item hidden n (parts (message_of later))) (shown is_zero_item hidden n (parts (message_of later)))
-          ≡ map (put_in item_read) (cond u (record { number = number; key = key; item = kept_parts.Msg listed child } ∷ filter (is_shown_part hidden) (of_number n later)) (filter (is_shown_part hidden) (of_number n later)))) [
-            | true ↦ ap (λ (ps : List (Part Item)). record { number = number; key = key; item = model.Msg (message_of child) } ∷ ps) rest
-            | false ↦ rest
-          ]
-      | false ↦ rest
-    ]
+    search (rules, parts_shown hidden n later)
 
 module _ (view : View) (old new : Shape) (a b : TypeId) where
   abbrev item_expected : ℕ → KeptItem → Expected
@@ -271,54 +238,20 @@ module _ (view : View) (old new : Shape) (a b : TypeId) where
   unfolding same
   expected_shown hidden n (kept.ends type unknown) = refl
   expected_shown hidden n (kept.holds number key listed leaf later) =
-      let rest = expected_shown hidden n later in
-      elim (nat_eq number n) as (λ t. cond (t && not (hidden && is_zero leaf)) (record { number = number; key = key; item = Alike leaf } ∷ shown is_zero_expected hidden n (expected view old new a b (message_of later))) (shown is_zero_expected hidden n (expected view old new a b (message_of later)))
-      ≡ map (put_in item_expected) (filter (is_shown_part hidden) (cond t (record { number = number; key = key; item = kept_parts.Plain listed leaf } ∷ of_number n later) (of_number n later)))) [
-        | true ↦ elim (not (hidden && is_zero leaf)) as (λ u. cond u (record { number = number; key = key; item = Alike leaf } ∷ shown is_zero_expected hidden n (expected view old new a b (message_of later))) (shown is_zero_expected hidden n (expected view old new a b (message_of later)))
-            ≡ map (put_in item_expected) (cond u (record { number = number; key = key; item = kept_parts.Plain listed leaf } ∷ filter (is_shown_part hidden) (of_number n later)) (filter (is_shown_part hidden) (of_number n later)))) [
-              | true ↦ ap (λ (ps : List (Part Expected)). record { number = number; key = key; item = Alike leaf } ∷ ps) rest
-              | false ↦ rest
-            ]
-        | false ↦ rest
-      ]
+      search (rules, expected_shown hidden n later)
   expected_shown hidden n (kept.nests number key listed child later) =
-      let rest = expected_shown hidden n later in
-      let test = comparison.Kept (same view old new (child_type (fields old a) number) (child_type (fields new b) number) (message_of child)) in
-      elim (nat_eq number n) as (λ t. cond (t && not (hidden && false)) (record { number = number; key = key; item = test } ∷ shown is_zero_expected hidden n (expected view old new a b (message_of later))) (shown is_zero_expected hidden n (expected view old new a b (message_of later)))
-      ≡ map (put_in item_expected) (filter (is_shown_part hidden) (cond t (record { number = number; key = key; item = kept_parts.Msg listed child } ∷ of_number n later) (of_number n later)))) [
-        | true ↦ elim (not (hidden && false)) as (λ u. cond u (record { number = number; key = key; item = test } ∷ shown is_zero_expected hidden n (expected view old new a b (message_of later))) (shown is_zero_expected hidden n (expected view old new a b (message_of later)))
-            ≡ map (put_in item_expected) (cond u (record { number = number; key = key; item = kept_parts.Msg listed child } ∷ filter (is_shown_part hidden) (of_number n later)) (filter (is_shown_part hidden) (of_number n later)))) [
-              | true ↦ ap (λ (ps : List (Part Expected)). record { number = number; key = key; item = test } ∷ ps) rest
-              | false ↦ rest
-            ]
-        | false ↦ rest
-      ]
+      search (rules, expected_shown hidden n later)
 
 read_as : (view : ViewName) (old new : Parts) (n : ℕ) (listed : Bool) (xs : List Keyed) → AllByRecursion (λ (x : Keyed). item_read n (item_seen listed x.1) ≡ item_lent x.1) xs
 read_as view old new n listed [] = tt
-read_as view old new n listed (x ∷ xs) = (of x.1, read_as view old new n listed xs)
-  where
-    of : (v : ValueRef) → item_read n (item_seen listed v) ≡ item_lent v
-    of (values.Int m) = refl
-    of (values.F32 m) = refl
-    of (values.F64 m) = refl
-    of (values.Text m) = refl
-    of (values.Bytes m) = refl
-    of (values.Msg m) = refl
+read_as view old new n listed (x ∷ xs) = search (rules, read_as view old new n listed xs)
 
 module _ (view : ViewName) (old new : Parts) (f g : FieldShape) (v w : Kept) where
   expected_as : (listed : Bool) → child_type (fields (shape_of old) (type_of v)) f.number ≡ element_type f.element → child_type (fields (shape_of new) (type_of w)) f.number ≡ element_type g.element → (xs : List Keyed) → AllByRecursion (HeldFits (shape_of old) f.element) xs →
       AllByRecursion (λ (x : Keyed). item_expected (view_named view old new) (shape_of old) (shape_of new) (type_of v) (type_of w) f.number (item_seen listed x.1) ≡ value_expected view old new (element_type g.element) x.1) xs
   expected_as listed of_old of_new [] h = tt
-  expected_as listed of_old of_new (x ∷ xs) h = (one x.1 (item_type (shape_of old) f.element x.1 h.0.1), expected_as listed of_old of_new xs h.1)
-    where
-      one : (value : ValueRef) → IsOfType (element_type f.element) value → item_expected (view_named view old new) (shape_of old) (shape_of new) (type_of v) (type_of w) f.number (item_seen listed value) ≡ value_expected view old new (element_type g.element) value
-      one (values.Int m) k = refl
-      one (values.F32 m) k = refl
-      one (values.F64 m) k = refl
-      one (values.Text m) k = refl
-      one (values.Bytes m) k = refl
-      one (values.Msg m) k = ap₂ (λ s t. comparison.Kept (same (view_named view old new) (shape_of old) (shape_of new) s t (message_of m.value))) (of_old ∙ sym k) of_new
+  expected_as listed of_old of_new (x ∷ xs) h =
+      search (rules, expected_as listed of_old of_new xs h.1, item_type)
 
   module _ (is_old : IsShape (shape_of old)) (fits : Fits (shape_of old) v) (found : field_at (fields (shape_of old) (type_of v)) f.number ≡ Some f) (beside : field_at (fields (shape_of new) (type_of w)) f.number ≡ Some g) where
     -- a field shows what it means where the shown items meet
@@ -370,8 +303,7 @@ filled_keyed (contents.Map es) h is = of es.items h is
     of (x ∷ xs) k e = cc
 
 pub shown_filled : (o s : Option (Bor ContentRef)) (c : Bor ContentRef) → IfSome o (λ c. IsFilled c.now) → IfSome s (λ c. option_copied o ≡ Some c.now) → s ≡ Some c → keyed c.now ≡ [] → ⊥
-shown_filled o s c filled same is =
-    filled_keyed c.now (copied_fact IsFilled o c.now filled (subst (λ (x : Option (Bor ContentRef)). IfSome x (λ y. option_copied o ≡ Some y.now)) is same))
+shown_filled o s c filled same is = search (rules, filled_keyed, copied_fact)
 
 pub first_alone : (test : Keyed → Keyed → Bool) (xs : List Keyed) → (xs ≡ [] → ⊥) → false ≡ pointwise test xs []
 first_alone test [] h = absurd (h refl)

@@ -1,5 +1,5 @@
 -- A message shows the same where each field does that has a content in it or in what is read of it, and what its type lacks comes back as it was written.
-use Rattle.std.proofs.Common.{◌≡◌, ℕ, ◌+◌, ◌<◌, List, [], ◌∷◌, ◌++◌, length, get_or, take, map, flat_map, Bool, true, false, ◌&&◌, cond, nat_eq, is_none, Some, None, refl, ap, sym, ◌∙◌, subst, eqb-true, true≢false}
+use Rattle.std.proofs.Common.{◌≡◌, ℕ, ◌+◌, ◌<◌, List, [], ◌∷◌, ◌++◌, length, get_or, take, map, flat_map, Bool, true, false, ◌&&◌, nat_eq, is_none, Some, None, refl, ap, sym, ◌∙◌, subst, eqb-true, true≢false, rules}
 use Rattle.std.specs.List.{AllByRecursion, list_all}
 use Rattle.std.specs.Str.{bytes_eq}
 use Rattle.pg_schema.specs.declared.parts.field.TypeId.{TypeId}
@@ -31,12 +31,7 @@ use Rattle.pg_pairs.proofs.lemmas.witness.SameSteps.{content_keyed, is_list, par
 
 pub outside_all : (gs : List FieldShape) (us : List Record) → flat_map (outside_record gs) us ≡ bytes_of (records_outside gs (map seen_record us))
 outside_all gs [] = refl
-outside_all gs (u ∷ us) =
-    let rest = outside_all gs us in
-    elim (is_none (field_at gs u.number)) as (λ b. cond b u.bytes.now [] ++ flat_map (outside_record gs) us ≡ bytes_of (cond b (seen_record u ∷ records_outside gs (map seen_record us)) (records_outside gs (map seen_record us)))) [
-      | true ↦ ap (λ bytes. u.bytes.now ++ bytes) rest
-      | false ↦ rest
-    ]
+outside_all gs (u ∷ us) = search (rules, outside_all gs us, is_none, flat_map)
 
 -- ---- lists that are gone through
 
@@ -120,13 +115,7 @@ module _ (view : ViewName) (old new : Parts) (v w : Kept) where
 
   -- contents of which one isn't shown
   pub same_of_none : (cs : List (ℕ × ContentRef)) → false ≡ list_all (λ (c : ℕ × ContentRef). same_at c.0) cs → false ≡ is_same view old new v w
-  same_of_none cs h =
-      let not_all : all_same ≡ false =
-      elim all_same as (λ b. all_same ≡ b → b ≡ false) [
-        | true ↦ λ all. absurd (true≢false (sym (list_all_each (λ (c : ℕ × ContentRef). same_at c.0) cs (each_of_all (λ (c : ℕ × ContentRef). same_at c.0 ≡ true) (λ c. each_number all c.0) cs)) ∙ sym h))
-        | false ↦ λ e. refl
-      ] refl in
-      sym (same_is ∙ ap (λ b. b && outside_same) not_all)
+  same_of_none cs h = search (rules, true≢false, list_all_each, each_of_all, each_number, same_is)
 
   module _ (is_old : IsShape (shape_of old)) (fits : Fits (shape_of old) v) where
     -- a field that has no content in either is the same in both
@@ -140,12 +129,4 @@ module _ (view : ViewName) (old new : Parts) (v w : Kept) where
     -- where each field is the same that has a content in either, all are
     pub same_of_all : ((n : ℕ) → same_at n ≡ false → of_number n v ≡ []) → ((n : ℕ) → same_at n ≡ false → of_number n w ≡ []) → outside_same ≡ is_same view old new v w
     same_of_all first second =
-        let one : (f : FieldShape) → field_at (fields (shape_of old) (type_of v)) f.number ≡ Some f → same_by f ≡ true = λ f found.
-        let by_number : same_at f.number ≡ same_by f = ap (is_same_if view old new v w) found in
-        elim (same_by f) as (λ b. same_by f ≡ b → b ≡ true) [
-          | true ↦ λ e. refl
-          | false ↦ λ e. sym e ∙ no_content f found (first f.number (by_number ∙ e)) (second f.number (by_number ∙ e))
-        ] refl in
-        let found = fields_are_found.2 (fields (shape_of old) (type_of v)) (fields_are_found.0 (shape_of old) (type_of v) is_old).rising in
-        let all : all_same ≡ true = list_all_each same_by (fields (shape_of old) (type_of v)) (each_weaker (λ (f : FieldShape). field_at (fields (shape_of old) (type_of v)) f.number ≡ Some f) (λ (f : FieldShape). same_by f ≡ true) one (fields (shape_of old) (type_of v)) found) in
-        sym (same_is ∙ ap (λ b. b && outside_same) all)
+        search (rules, no_content, fields_are_found, list_all_each, each_weaker, same_is)

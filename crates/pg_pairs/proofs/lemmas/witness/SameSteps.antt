@@ -1,6 +1,6 @@
 -- What two fields show, item by item, and part by part as the definitions see it.
-use Rattle.std.proofs.Common.{◌≡◌, ℕ, zero, suc, ◌+◌, ◌<◌, ◌≤◌, Bor, List, [], ◌∷◌, map, filter, drop, slice_get, Bool, true, false, not, ◌&&◌, cond, Option, Some, None, option_map, IfSome, MatchOption, refl, ap, ap₂, sym, ◌∙◌, subst, arith, add-one}
-use Rattle.std.specs.List.{AllByRecursion, list_all}
+use Rattle.std.proofs.Common.{◌≡◌, ℕ, zero, suc, ◌+◌, ◌<◌, ◌≤◌, Bor, List, [], ◌∷◌, map, filter, drop, slice_get, Bool, true, false, not, ◌&&◌, Option, Some, None, option_map, IfSome, MatchOption, refl, ap, ap₂, sym, ◌∙◌, subst, arith, add-one, rules}
+use Rattle.std.specs.List.{AllByRecursion}
 use Rattle.std.specs.Option.{option_copied}
 use lib.Pointwise.{pointwise}
 use Rattle.pg_dyn.specs.declared.message_ref.ContentRef.{ContentRef}
@@ -8,7 +8,7 @@ use Rattle.pg_dyn.specs.declared.message_ref.ContentRef.TheVariants as contents
 use Rattle.pg_dyn.specs.declared.message_ref.EntryRef.{EntryRef}
 use Rattle.pg_dyn.specs.declared.message_ref.ValueRef.{ValueRef}
 use Rattle.pg_dyn.specs.declared.message_ref.ValueRef.TheVariants as values
-use Rattle.pg_dyn.specs.message.Message.{Part, is_of}
+use Rattle.pg_dyn.specs.message.Message.{Part}
 use Rattle.pg_dyn.specs.message.Kept.{Kept}
 use Rattle.pg_dyn.specs.message.KeptParts.{KeptItem, parts_of, of_number}
 use Rattle.pg_dyn.specs.message.Weights.{weight}
@@ -39,10 +39,6 @@ pointwise-map test f g [] [] = refl
 pointwise-map test f g [] (y ∷ ys) = refl
 pointwise-map test f g (x ∷ xs) [] = refl
 pointwise-map test f g (x ∷ xs) (y ∷ ys) = ap (λ b. test (f x) (g y) && b) (pointwise-map test f g xs ys)
-
-pub list_all-map : {A B : Type 0} (test : B → Bool) (f : A → B) (xs : List A) → list_all test (map f xs) ≡ list_all (λ x. test (f x)) xs
-list_all-map test f [] = refl
-list_all-map test f (x ∷ xs) = ap (λ b. test (f x) && b) (list_all-map test f xs)
 
 pub each_got : {A : Type 0} (P : A → Type 0) (xs : List A) (i : ℕ) (x : A) → AllByRecursion P xs → slice_get xs i ≡ Some x → P x
 each_got P [] i x h is = absurd (cc)
@@ -101,15 +97,11 @@ weight_is (kept.nests number key listed child later) = let rest = weight_is late
 
 filter_weight : (test : Part KeptItem → Bool) (ps : List (Part KeptItem)) → parts_weight (filter test ps) ≤ parts_weight ps
 filter_weight test [] = omega arith
-filter_weight test (p ∷ ps) =
-    let rest = filter_weight test ps in
-    elim (test p) as (λ b. parts_weight (cond b (p ∷ filter test ps) (filter test ps)) ≤ part_weight p + parts_weight ps) [ true ↦ omega arith | false ↦ omega arith ]
+filter_weight test (p ∷ ps) = search (rules, filter_weight test ps)
 
 pub filter_total : (test : Keyed → Bool) (xs : List Keyed) → total (filter test xs) ≤ total xs
 filter_total test [] = omega arith
-filter_total test (x ∷ xs) =
-    let rest = filter_total test xs in
-    elim (test x) as (λ b. total (cond b (x ∷ filter test xs) (filter test xs)) ≤ held_weight x.1 + total xs) [ true ↦ omega arith | false ↦ omega arith ]
+filter_total test (x ∷ xs) = search (rules, filter_total test xs)
 
 -- ---- a content's items as parts
 
@@ -146,15 +138,7 @@ seen_keyed n (Some c) = content_keyed n c
 seen_keyed n None = refl
 
 pub item_weight : (n : ℕ) (listed : Bool) (x : Keyed) → part_weight (part_with n listed x) ≡ held_weight x.1
-item_weight n listed x = of x.1
-  where
-    of : (v : ValueRef) → part_weight (record { number = n; key = option_map leaf_of x.0; item = item_seen listed v }) ≡ held_weight v
-    of (values.Int m) = refl
-    of (values.F32 m) = refl
-    of (values.F64 m) = refl
-    of (values.Text m) = refl
-    of (values.Bytes m) = refl
-    of (values.Msg m) = refl
+item_weight n listed x = search rules
 
 map_weight : (n : ℕ) (listed : Bool) (xs : List Keyed) → parts_weight (map (part_with n listed) xs) ≡ total xs
 map_weight n listed [] = refl
@@ -163,6 +147,4 @@ map_weight n listed (x ∷ xs) = ap₂ (λ a b. a + b) (item_weight n listed x) 
 -- the items that a field shows weigh less than the message
 pub shown_weight : (n : ℕ) (m : Kept) (o : Option ContentRef) (hidden : Bool) → of_number n m ≡ seen_if n o → total (keyed_shown hidden o) < weight m
 shown_weight n m o hidden is =
-    let less = filter_total (λ (x : Keyed). not (hidden && is_zero_value x.1)) (keyed_if o) in
-    let same : parts_weight (of_number n m) ≡ total (keyed_if o) = ap parts_weight (is ∙ seen_keyed n o) ∙ map_weight n (list_if o) (keyed_if o) in
-    omega (arith, less, same, filter_weight (is_of n) (parts_of m), weight_is m)
+    search (rules, filter_total, seen_keyed, map_weight, filter_weight, weight_is)

@@ -1,5 +1,5 @@
 -- Each choice of one field is reached by its message.
-use Rattle.std.proofs.Common.{◌≡◌, ℕ, ◌+◌, ◌*◌, ◌<◌, ◌≤◌, [], ◌∷◌, ◌++◌, length, Bool, true, false, ◌&&◌, if◌then◌else◌, Option, Some, None, option_map, ◌⊎◌, inl, inr, ⊎_elim, refl, ap, ap₂, sym, ◌∙◌, subst, arith}
+use Rattle.std.proofs.Common.{◌≡◌, ℕ, ◌+◌, ◌*◌, ◌<◌, ◌≤◌, [], ◌∷◌, ◌++◌, length, Bool, true, false, ◌&&◌, if◌then◌else◌, Option, Some, None, option_map, ◌⊎◌, inl, inr, ⊎_elim, refl, ap, ap₂, sym, ◌∙◌, subst, arith, rules}
 use Rattle.std.specs.List.{AllByRecursion}
 use Rattle.std.proofs.lemmas.Bool.{and_parts}
 use Rattle.pg_schema.specs.declared.parts.field.TypeId.{TypeId}
@@ -132,12 +132,7 @@ module _ (enum_view : EnumView) (law : IsEnumView enum_view) (old new : Shape) (
 
     -- A gap: the message of its item.
     gap_carried_by : (p q : Presence) (body : ℕ) → (gap : Gapped enum_view (zero_counts (at_old p) (at_new q)) e d body) → (one_item (at_old p) (body_length (form e) gap.item) ≤ cap → ReachedBy enum_view old new pair (holds number None gap.item (ends [])) (one_item (at_old p) (body_length (form e) gap.item))) → Carries p q cases.Gap 0 (one_item (at_old p) body)
-    gap_carried_by p q body gap h =
-        childless (item_alone number None (option_map Plain (gap_item enum_view (zero_counts (at_old p) (at_new q)) e d))) (one_item (at_old p) body)
-        (λ small.
-        subst (λ x. ReachedBy enum_view old new pair (item_alone number None (option_map Plain x)) (one_item (at_old p) body)) (sym gap.item_is)
-        (subst (λ b. ReachedBy enum_view old new pair (holds number None gap.item (ends [])) (one_item (at_old p) b)) gap.body_is
-        (h (subst (λ b. one_item (at_old p) b ≤ cap) (sym gap.body_is) small))))
+    gap_carried_by p q body gap h = search (rules, childless)
 
     unpacked_gap : (p q : Presence) → KeyFits p None → IsNoMap q → IsUnpacked (at_old p) → ((b : ℕ) → one_item (at_old p) b ≡ length (tag number (form_wire (form e))) + b) → like e d ≡ true → field_at (fields old pair.old) number ≡ Some (at_old p) → field_at (fields new pair.new) number ≡ Some (at_new q) → (body : ℕ) → Gapped enum_view (zero_counts (at_old p) (at_new q)) e d body → Carries p q cases.Gap 0 (one_item (at_old p) body)
     unpacked_gap p q no_key no_map unpacked cost_is is_like found at body gap =
@@ -164,12 +159,7 @@ module _ (enum_view : EnumView) (law : IsEnumView enum_view) (old new : Shape) (
     child_reached presences.Implicit q no_map_old no_map found at fits cost h = child_carried number o r e d presences.Implicit q refl no_map (λ x. unpacked_implicit number x o) (λ x b. refl) found at cost h
     child_reached presences.Explicit q no_map_old no_map found at fits cost h = child_carried number o r e d presences.Explicit q refl no_map (λ x. unpacked_explicit number x o) (λ x b. refl) found at cost h
     child_reached (presences.Repeated false) q no_map_old no_map found at fits cost h = child_carried number o r e d (presences.Repeated false) q refl no_map (λ x. unpacked_repeated number x o) (λ x b. refl) found at cost h
-    child_reached (presences.Repeated true) q no_map_old no_map found at fits cost h = absurd (no_child e (fits.1 refl) h)
-      where
-        no_child : (x : Element) → is_packable x ≡ true → option_map (one_item (at_old (presences.Repeated true))) (child_body table x d) ≡ Some cost → ⊥
-        no_child (elements.Message s) packable k = absurd (cc)
-        no_child (elements.Scalar s) packable k = absurd (cc)
-        no_child (elements.Enum s) packable k = absurd (cc)
+    child_reached (presences.Repeated true) q no_map_old no_map found at fits cost h = search rules
     child_reached (presences.Map k) q no_map_old no_map found at fits cost h = absurd no_map_old
 
     -- one packed zero, whose record isn't accepted
@@ -197,9 +187,7 @@ module _ (enum_view : EnumView) (law : IsEnumView enum_view) (old new : Shape) (
 
     -- two items, of which one is read
     two_items : like e d ≡ true → field_at (fields old pair.old) number ≡ Some (at_old (presences.Repeated false)) → field_at (fields new pair.new) number ≡ Some (at_new presences.Explicit) → (cost : ℕ) → Some (2 * least_content (at_old (presences.Repeated false))) ≡ Some cost → Carries (presences.Repeated false) presences.Explicit cases.List 0 cost
-    two_items is_like found at cost h =
-        childless (with_part number None (item_by (λ x. zero_leaf x) e) (alone number None (item_by (λ x. zero_leaf x) e))) cost
-        (λ small. subst (ReachedBy enum_view old new pair (with_part number None (item_by (λ x. zero_leaf x) e) (alone number None (item_by (λ x. zero_leaf x) e)))) least (of (leaf_or_message e) (subst (λ n. n ≤ cap) (sym least) small)))
+    two_items is_like found at cost h = search (rules, childless, least, of, leaf_or_message)
       where
         least : 2 * least_content (at_old (presences.Repeated false)) ≡ cost
         least = same_cost (2 * least_content (at_old (presences.Repeated false))) cost h
@@ -321,9 +309,7 @@ module _ (enum_view : EnumView) (law : IsEnumView enum_view) (old new : Shape) (
           (key_gap_made like_keys like_values found at body gap (subst (λ b. entry_cost number b (least_body e) ≤ cap) (sym gap.body_is) small))))
 
       value_gap_carried : like e d ≡ true → field_at (fields old pair.old) number ≡ Some old_map → field_at (fields new pair.new) number ≡ Some new_map → (body : ℕ) → Gapped enum_view true e d body → Carries (presences.Map k) (presences.Map l) cases.Map 2 (one_item old_map body)
-      value_gap_carried like_values found at body gap =
-          subst (λ w. IsCarried w (λ child. item_alone number (Some (zero_leaf (form (elements.Scalar k)))) (broken_value child (gap_item enum_view true e d))) (one_item old_map body)) (sym (leafy_childless e d gap.old_leafy))
-          (λ small. (tt, of small))
+      value_gap_carried like_values found at body gap = search (rules, leafy_childless, of)
         where
           of : one_item old_map body ≤ cap → (child : Option Message) → ChildReached enum_view old new table None child → ReachedBy enum_view old new pair (item_alone number (Some (zero_leaf (form (elements.Scalar k)))) (broken_value child (gap_item enum_view true e d))) (one_item old_map body)
           of small (Some m) h = absurd h
@@ -335,35 +321,19 @@ module _ (enum_view : EnumView) (law : IsEnumView enum_view) (old new : Shape) (
 
       -- unlike keys or values: the entry of a least key and value, where an unlike integer is 1
       apart_range : (x y : Element) → IsLeafy x → InRange (form x) (apart_leaf x y)
-      apart_range x y leafy = of (like x y)
-        where
-          of : (b : Bool) → InRange (form x) (if b then zero_leaf (form x) else far_leaf (form x))
-          of true = zero_in_range x leafy
-          of false = far_in_range x leafy
+      apart_range x y leafy = search (rules, zero_in_range, far_in_range)
 
       apart_length : (x y : Element) → IsLeafy x → body_length (form x) (apart_leaf x y) ≡ least_body x
-      apart_length x y leafy = of (like x y)
-        where
-          of : (b : Bool) → body_length (form x) (if b then zero_leaf (form x) else far_leaf (form x)) ≡ least_body x
-          of true = zero_length x leafy
-          of false = far_length x leafy
+      apart_length x y leafy = search (rules, zero_length, far_length)
 
       apart_far : (x y : Element) → like x y ≡ false → apart_leaf x y ≡ far_leaf (form x)
       apart_far x y unlike = ap (λ (b : Bool). if b then zero_leaf (form x) else far_leaf (form x)) unlike
 
       apart_part : IsLeafy e → (key : Option Leaf) → alone number key (apart_item e d) ≡ holds number key (apart_leaf e d) (ends [])
-      apart_part leafy key = of (like e d)
-        where
-          of : (b : Bool) → alone number key (if b then item_by (λ x. zero_leaf x) e else item_by (λ x. far_leaf x) e) ≡ holds number key (if b then zero_leaf (form e) else far_leaf (form e)) (ends [])
-          of true = leaf_part (λ x. zero_leaf x) e leafy number key (ends [])
-          of false = leaf_part (λ x. far_leaf x) e leafy number key (ends [])
+      apart_part leafy key = search (rules, leaf_part)
 
       apart_child : (s : TypeId) → e ≡ elements.Message s → (key : Option Leaf) → nests number key (ends []) (ends []) ≡ alone number key (apart_item e d)
-      apart_child s is key = subst (λ x. nests number key (ends []) (ends []) ≡ alone number key (apart_item x d)) (sym is) (of (like (elements.Message s) d))
-        where
-          of : (b : Bool) → nests number key (ends []) (ends []) ≡ alone number key (if b then item_by (λ x. zero_leaf x) (elements.Message s) else item_by (λ x. far_leaf x) (elements.Message s))
-          of true = refl
-          of false = refl
+      apart_child s is key = search rules
 
       unlike_maps_made : (like (elements.Scalar k) (elements.Scalar l) && like e d) ≡ false → field_at (fields old pair.old) number ≡ Some old_map → field_at (fields new pair.new) number ≡ Some new_map → least_content old_map ≤ cap → ReachedBy enum_view old new pair (alone number (Some (apart_leaf (elements.Scalar k) (elements.Scalar l))) (apart_item e d)) (least_content old_map)
       unlike_maps_made unlike found at small = ⊎_elim leaves child (leaf_or_message e)
@@ -372,11 +342,7 @@ module _ (enum_view : EnumView) (law : IsEnumView enum_view) (old new : Shape) (
           key_least = apart_length (elements.Scalar k) (elements.Scalar l) tt
 
           either : (like (elements.Scalar k) (elements.Scalar l) ≡ false) ⊎ (like e d ≡ false)
-          either = of (like (elements.Scalar k) (elements.Scalar l)) refl
-            where
-              of : (b : Bool) → like (elements.Scalar k) (elements.Scalar l) ≡ b → (like (elements.Scalar k) (elements.Scalar l) ≡ false) ⊎ (like e d ≡ false)
-              of false h = inl h
-              of true h = inr (rw h at unlike)
+          either = search rules
 
           leaves : IsLeafy e → ReachedBy enum_view old new pair (alone number (Some (apart_leaf (elements.Scalar k) (elements.Scalar l))) (apart_item e d)) (least_content old_map)
           leaves leafy =
@@ -423,8 +389,7 @@ module _ (enum_view : EnumView) (law : IsEnumView enum_view) (old new : Shape) (
 
     -- a map beside a field that is none, and the other way round
     map_beside_carried : (k : Scalar) (q : Presence) → IsNoMap q → field_at (fields old pair.old) number ≡ Some (at_old (presences.Map k)) → field_at (fields new pair.new) number ≡ Some (at_new q) → Carries (presences.Map k) q cases.Unlike 0 (unlike_cost (at_old (presences.Map k)) (at_new q))
-    map_beside_carried k q no_map found at =
-        childless (least_part (at_old (presences.Map k)) (ends [])) (least_content (at_old (presences.Map k))) (reach_map enum_view old new shape_old shape_new pair number o r e d k q no_map found at)
+    map_beside_carried k q no_map found at = search (rules, childless, reach_map)
 
     beside_map_carried : (p : Presence) → IsNoMap p → (l : Scalar) → field_at (fields old pair.old) number ≡ Some (at_old p) → field_at (fields new pair.new) number ≡ Some (at_new (presences.Map l)) → Carries p (presences.Map l) cases.Unlike 0 (unlike_cost (at_old p) (at_new (presences.Map l)))
     beside_map_carried presences.Implicit no_map l found at =

@@ -1,5 +1,5 @@
 -- Items that carried messages hold: gaps, children, zeros.
-use Rattle.std.proofs.Common.{◌≡◌, ℕ, ◌<◌, Bool, true, Option, Some, None, option_and_then, ◌⊎◌, inl, inr, refl, ap, sym, ◌∙◌, subst, arith}
+use Rattle.std.proofs.Common.{◌≡◌, ℕ, ◌<◌, Bool, true, Option, Some, None, option_and_then, ◌⊎◌, inl, inr, refl, ap, arith, rules}
 use Rattle.pg_schema.specs.declared.parts.field.TypeId.{TypeId}
 use Rattle.pg_schema.specs.declared.parts.field.Element.{Element}
 use Rattle.pg_schema.specs.declared.parts.field.Element.TheVariants as elements
@@ -10,9 +10,9 @@ use Rattle.pg_pairs.specs.views.EnumView.{EnumView}
 use Rattle.pg_pairs.specs.views.ViewLaws.{IsEnumView}
 use Rattle.pg_pairs.specs.gaps.Likeness.{like}
 use Rattle.pg_pairs.specs.gaps.Gaps.{body_length, gap_item}
-use Rattle.pg_pairs.specs.gaps.TrueGaps.{IsLeastUnseen, IsGapItem}
+use Rattle.pg_pairs.specs.gaps.TrueGaps.{IsLeastUnseen}
 use Rattle.pg_pairs.specs.choices.Costs.{with_length}
-use Rattle.pg_pairs.specs.choices.Choices.{child_pair, Table, number_for, gap_body, child_body}
+use Rattle.pg_pairs.specs.choices.Choices.{child_pair, Table, gap_body, child_body}
 use Rattle.pg_pairs.specs.witness.Carried.{nonzero_leaf, item_by, least_part_of}
 use Rattle.pg_pairs.proofs.lemmas.gaps.GapItems.{IsLeafy, gap_item_is}
 use Rattle.pg_wire.proofs.PublicLaws.{lengths_grow}
@@ -72,16 +72,7 @@ pub record Gapped (enum_view : EnumView) (zero : Bool) (e d : Element) (body : �
 -- the item of a gap
 pub gapped : (enum_view : EnumView) → IsEnumView enum_view → (zero : Bool) (e d : Element) → like e d ≡ true → (body : ℕ) → gap_body enum_view zero e d ≡ Some body → Gapped enum_view zero e d body
 gapped enum_view law zero e d is_like body h =
-    let (item, item_is, made) = option_map_some (body_length (form e)) (gap_item enum_view zero e d) body h in
-    let leafy = gap_leafy enum_view zero e d item item_is in
-    record {
-      item = item;
-      item_is = item_is;
-      old_leafy = leafy;
-      new_leafy = like_leafy e d is_like leafy;
-      least = subst (IsGapItem enum_view.alike zero e d) item_is (gap_item_is enum_view law zero e d leafy is_like);
-      body_is = made;
-    }
+    search (rules, option_map_some, gap_leafy, like_leafy, gap_item_is)
 
 -- a child with a number in the table
 number_there : (o : Option (Option ℕ)) (x : ℕ) → option_and_then (λ bound. bound) o ≡ Some x → o ≡ Some (Some x)
@@ -90,14 +81,10 @@ number_there (Some None) x h = absurd (cc)
 number_there None x h = absurd (cc)
 
 pub nested : (table : Table) (s t : TypeId) (body : ℕ) → child_body table (elements.Message s) (elements.Message t) ≡ Some body → (x : ℕ) × (table (record { old = s; new = t }) ≡ Some (Some x)) × (with_length x ≡ body)
-nested table s t body h =
-    let (x, number, made) = option_map_some with_length (number_for table (record { old = s; new = t })) body h in
-    (x, number_there (table (record { old = s; new = t })) x number, made)
+nested table s t body h = search (rules, option_map_some, number_there)
 
 pub same_bound : (o : Option (Option ℕ)) (x y : ℕ) → o ≡ Some (Some x) → o ≡ Some (Some y) → x ≡ y
-same_bound o x y h k =
-    let equal : ◌≡◌ {A = Option (Option ℕ)} (Some (Some x)) (Some (Some y)) = sym h ∙ k in
-    cc
+same_bound o x y h k = search rules
 
 pub longer : (x : ℕ) → x < with_length x
 longer x = let positive = lengths_grow.3 x in omega (arith, positive)

@@ -1,5 +1,5 @@
 -- Messages that reach a choice.
-use Rattle.std.proofs.Common.{◌≡◌, ℕ, ◌+◌, ◌≤◌, List, [], ◌∷◌, ◌++◌, length, true, false, not, ◌&&◌, Option, Some, None, refl, ap, ap₂, sym, ◌∙◌, subst, arith, length-append, eq-eqb, inr}
+use Rattle.std.proofs.Common.{◌≡◌, ℕ, ◌+◌, ◌≤◌, List, [], ◌∷◌, ◌++◌, length, true, false, not, ◌&&◌, Option, Some, None, refl, ap, ap₂, sym, ◌∙◌, subst, arith, length-append, eq-eqb, inr, rules}
 use Rattle.pg_schema.specs.declared.parts.field.TypeId.{TypeId}
 use Rattle.pg_schema.specs.declared.parts.field.Element.{Element}
 use Rattle.pg_schema.specs.declared.parts.field.Element.TheVariants as elements
@@ -8,7 +8,6 @@ use Rattle.pg_schema.specs.declared.parts.field.Presence.TheVariants as presence
 use Rattle.pg_schema.specs.Shape.{Shape, FieldShape, fields, field_at}
 use Rattle.pg_schema.specs.ShapeRules.{IsShape}
 use Rattle.pg_dyn.specs.message.Message.{Leaf, Bytes, Message, ends, holds, nests, is_zero, unknown_of}
-use Rattle.pg_wire.specs.Varint.{varint}
 use Rattle.pg_wire.specs.Records.{tag}
 use Rattle.pg_dyn.specs.word.Coding.{form, form_wire, InRange}
 use Rattle.pg_dyn.specs.reading.Content.{same_wire, is_sibling}
@@ -117,15 +116,8 @@ reach_gap enum_view old new shape_old shape_new pair f g found at numbers no_key
 -- Case 3: a child that breaks.
 
 pub reach_child : (enum_view : EnumView) (old new : Shape) → IsShape old → IsShape new → (pair : Pair) (number : ℕ) (p q : Presence) (s t : TypeId) (o r : Option ℕ) → field_at (fields old pair.old) number ≡ Some (record { number = number; presence = p; element = elements.Message s; oneof = o }) → field_at (fields new pair.new) number ≡ Some (record { number = number; presence = q; element = elements.Message t; oneof = r }) → KeyFits p None → IsNoMap q → IsUnpacked (record { number = number; presence = p; element = elements.Message s; oneof = o }) → ((b : ℕ) → one_item (record { number = number; presence = p; element = elements.Message s; oneof = o }) b ≡ length (tag number (form_wire (form (elements.Message s)))) + b) → (child : Message) (x : ℕ) → ReachedBy enum_view old new (record { old = s; new = t }) child x → one_item (record { number = number; presence = p; element = elements.Message s; oneof = o }) (with_length x) ≤ cap → ReachedBy enum_view old new pair (nests number None child (ends [])) (one_item (record { number = number; presence = p; element = elements.Message s; oneof = o }) (with_length x))
-reach_child enum_view old new shape_old shape_new pair number p q s t o r found at no_key no_map unpacked cost_is child x (breaks, length_is) small = (
-  record {
-    is_message = is;
-    is_plain = (breaks.is_plain, tt);
-    has_encoding = short;
-    not_kept = single_broken enum_view.alike old new shape_old shape_new pair.old pair.new v is (breaks.is_plain, tt) short f g found at (refl, tt) broken;
-  },
-  whole,
-)
+reach_child enum_view old new shape_old shape_new pair number p q s t o r found at no_key no_map unpacked cost_is child x (breaks, length_is) small =
+    search (rules, is, short, single_broken, broken, whole)
   where
     f : FieldShape
     f = record { number = number; presence = p; element = elements.Message s; oneof = o }
@@ -163,14 +155,10 @@ reach_child enum_view old new shape_old shape_new pair number p q s t o r found 
     expected_is = ap₂ (λ u w. Kept (same_message enum_view.alike (fields old u) (fields new w) (expected enum_view.alike old new u w child) (unshared_bytes old u (fields new w) child))) old_is new_is
 
     broken : is_field_kept enum_view.alike (dec new) f g (c ∷ []) ≡ false
-    broken =
-        child_broken enum_view.alike (dec new) number p q s t o r c (not_map (dec new) g no_map) unpacked refl bytes _ written_is expected_is
-        (kept_is enum_view.alike old new s t child ∙ breaks.not_kept)
+    broken = search (rules, child_broken, not_map, written_is, expected_is, kept_is)
 
     body_is : body_length (form (elements.Message s)) c.written ≡ with_length x
-    body_is =
-        ap (body_length (form (elements.Message s))) written_is ∙ length-append (varint (length bytes)) bytes
-        ∙ ap (λ n. length (varint n) + n) (ap length (bytes_are old s child) ∙ length_is)
+    body_is = search (rules, written_is, length-append, bytes_are)
 
     whole : length (enc old pair.old v) ≡ one_item f (with_length x)
     whole =

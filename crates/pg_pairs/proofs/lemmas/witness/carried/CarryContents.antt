@@ -1,6 +1,5 @@
 -- What is known of the field of a choice and of the child that is given for it.
-use Rattle.std.proofs.Common.{◌≡◌, ℕ, length, true, false, if◌then◌else◌, Option, Some, None, IfSome, refl, ap, ap₂, sym, ◌∙◌, subst}
-use Rattle.pg_schema.specs.declared.parts.field.Element.{Element}
+use Rattle.std.proofs.Common.{◌≡◌, ℕ, length, Option, Some, IfSome, subst, rules}
 use Rattle.pg_schema.specs.declared.parts.field.Element.TheVariants as elements
 use Rattle.pg_schema.specs.declared.parts.field.TypeId.{TypeId}
 use Rattle.pg_schema.specs.Shape.{Shape, FieldShape, fields, field_at}
@@ -13,9 +12,9 @@ use Rattle.pg_pairs.specs.declared.choices.choice.Choice.{Choice}
 use Rattle.pg_pairs.specs.declared.choices.choice.Pair.{Pair}
 use Rattle.pg_pairs.specs.views.EnumView.{EnumView}
 use Rattle.pg_pairs.specs.views.ViewLaws.{IsEnumView}
-use Rattle.pg_pairs.specs.choices.Choices.{child_pair, Table, choices}
+use Rattle.pg_pairs.specs.choices.Choices.{Table, choices}
 use Rattle.pg_pairs.specs.bounds.Covering.{IsAmong}
-use Rattle.pg_pairs.specs.witness.Carried.{has_child, field_child, child_of, choice_child}
+use Rattle.pg_pairs.specs.witness.Carried.{field_child, choice_child}
 use Rattle.pg_pairs.specs.witness.CarriedChoices.{ChildGiven}
 use Rattle.pg_pairs.specs.inner.CarriedItems.{IsChildOf, IsPlacedBy}
 use Rattle.pg_pairs.proofs.lemmas.bounds.Messages.{one_found}
@@ -32,23 +31,8 @@ placed_there enum_view old new table law shape_old shape_new pair c among f foun
     subst (λ (x : FieldShape). IsPlacedBy x.presence c.case) (one_found (fields old pair.old) c.number stands.field f stands.found found) stands.placed
 
 pub child_there_is : (f g : FieldShape) (case : Case) (part : ℕ) (p : Pair) → field_child f g case part ≡ Some p → f.element ≡ elements.Message p.old
-child_there_is f g case part p =
-    elim (has_child case part) as (λ b. (if b then child_pair f.element g.element else None) ≡ Some p → f.element ≡ elements.Message p.old)
-    [ true ↦ element f.element g.element | false ↦ λ h. absurd (cc) ]
-  where
-    element : (e d : Element) → child_pair e d ≡ Some p → e ≡ elements.Message p.old
-    element (elements.Message s) (elements.Message t) h = let same : record { old = s; new = t } ≡ p = cc in ap (λ (x : Pair). elements.Message x.old) same
-    element (elements.Message s) (elements.Scalar t) h = absurd (cc)
-    element (elements.Message s) (elements.Enum t) h = absurd (cc)
-    element (elements.Scalar s) d h = absurd (cc)
-    element (elements.Enum s) d h = absurd (cc)
+child_there_is f g case part p = search rules
 
 -- a child that is given is a message of the field's type
 pub given_is_child : (old new : Shape) (pair : Pair) (c : Choice) (f g : FieldShape) → field_at (fields old pair.old) c.number ≡ Some f → field_at (fields new pair.new) c.number ≡ Some g → (child : Option Kept) → ChildGiven old (choice_child old new pair c) child → IfSome child (IsChildOf old f.element)
-given_is_child old new pair c f g found at child given = of (field_child f g c.case c.part) child refl (subst (λ o. ChildGiven old o child) (ap₂ (λ x y. child_of x y c) found at) given)
-  where
-    of : (wanted : Option Pair) (o : Option Kept) → field_child f g c.case c.part ≡ wanted → ChildGiven old wanted o → IfSome o (IsChildOf old f.element)
-    of None None is given = tt
-    of None (Some m) is given = absurd given
-    of (Some p) None is given = absurd given
-    of (Some p) (Some m) is given = (given.0, child_there_is f g c.case c.part p is ∙ ap (λ (t : TypeId). elements.Message t) (sym given.1))
+given_is_child old new pair c f g found at child given = search (rules, child_there_is)

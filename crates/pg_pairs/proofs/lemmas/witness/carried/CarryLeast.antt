@@ -1,5 +1,5 @@
 -- Unlike fields that are no maps: the least content breaks, and reaches its cost.
-use Rattle.std.proofs.Common.{◌≡◌, ℕ, ◌≤◌, [], ◌∷◌, ◌++◌, length, true, false, ◌&&◌, Option, Some, None, ⊎_elim, refl, ap, sym, ◌∙◌, subst}
+use Rattle.std.proofs.Common.{◌≡◌, ℕ, ◌≤◌, [], ◌∷◌, ◌++◌, length, true, false, ◌&&◌, Option, Some, None, ⊎_elim, refl, ap, sym, ◌∙◌, subst, rules}
 use Rattle.std.specs.List.{AllByRecursion}
 use Rattle.std.proofs.lemmas.Bool.{and_left, and_right}
 use Rattle.pg_schema.specs.declared.parts.field.TypeId.{TypeId}
@@ -33,7 +33,7 @@ use Rattle.pg_pairs.proofs.lemmas.gaps.GapItems.{IsLeafy}
 use Rattle.pg_pairs.proofs.lemmas.bounds.AcrossPlain.{IsNoMap, NotMap, not_map, IsUnpacked}
 use Rattle.pg_pairs.proofs.lemmas.bounds.AcrossMap.{is_map}
 use Rattle.pg_pairs.proofs.lemmas.bounds.Comparands.{leafy_item, unpacked_implicit, unpacked_explicit, unpacked_repeated}
-use Rattle.pg_pairs.proofs.lemmas.bounds.Messages.{HoldsAt, each_holds}
+use Rattle.pg_pairs.proofs.lemmas.bounds.Messages.{each_holds}
 use Rattle.pg_pairs.proofs.lemmas.bounds.Single.{single_length, single_broken}
 use Rattle.pg_pairs.proofs.lemmas.bounds.Broken.{one_unkept, untaken_broken, packed_untaken, unpacked_total}
 use Rattle.pg_pairs.proofs.lemmas.witness.carried.CarryAlone.{leaf_fits, reach_leaf}
@@ -63,9 +63,7 @@ module _ (enum_view : EnumView) (old new : Shape) (shape_old : IsShape old) (sha
       (record { field = f; found = found; key_fits = least_key_fits f.presence; before = tt; alone = tt }) found tt
 
   pub comparand_holds : Holds f the_comparand.comparand
-  comparand_holds =
-      (subst (AllByRecursion (HoldsAt (fields old pair.old))) the_comparand.comparands_are (each_holds enum_view.alike old new pair.old pair.new (fields_are_found.0 old pair.old shape_old) v is)).0 f
-      (ap (field_at (fields old pair.old)) the_comparand.number_is ∙ found)
+  comparand_holds = search (rules, the_comparand, each_holds, fields_are_found, is)
 
   no_unknown : (p : Presence) (e : Element) → unknown_of (least_part_of f.number p e (ends [])) ≡ []
   no_unknown p (elements.Message t) = refl
@@ -141,10 +139,8 @@ module _ (view : View) (child : Reader) (number : ℕ) (o r : Option ℕ) (d : E
   new_field q = record { number = number; presence = q; element = d; oneof = r }
 
   plain_unlike : (p q : Presence) → IsNoMap q → ((e : Element) → IsUnpacked (old_field p e)) → (e : Element) → like e d ≡ false → (c : Comparand) → Holds (old_field p e) c → (hides_zero (old_field p e) (new_field q) && is_zero_expected c.expected) ≡ false → is_field_kept view child (old_field p e) (new_field q) (c ∷ []) ≡ false
-  plain_unlike p q no_map unpacked (elements.Message s) unlike c held visible = of held.item
-    where
-      of : HoldsItem (elements.Message s) c → is_field_kept view child (old_field p (elements.Message s)) (new_field q) (c ∷ []) ≡ false
-      of (bytes, test, w, so) = child_lost view child (old_field p (elements.Message s)) (new_field q) (not_map child (new_field q) no_map) (unlike_message s d unlike) c test held.number_is so
+  plain_unlike p q no_map unpacked (elements.Message s) unlike c held visible =
+      search (rules, child_lost, not_map, unlike_message)
   plain_unlike p q no_map unpacked (elements.Scalar s) unlike c held visible =
       unlike_broken view child (old_field p (elements.Scalar s)) (new_field q) (not_map child (new_field q) no_map) (unpacked (elements.Scalar s)) tt unlike c held.number_is held.item.1 held.item.0 visible
   plain_unlike p q no_map unpacked (elements.Enum s) unlike c held visible =
@@ -186,8 +182,7 @@ module _ (view : View) (child : Reader) (number : ℕ) (o r : Option ℕ) (d : E
           (unlike_leaves e d leafy leafy_new unlike)
 
       of : (x : Element) → d ≡ x → is_field_kept view child (old_field (presences.Repeated true) e) (new_field q) (c ∷ []) ≡ false
-      of (elements.Message t) same =
-          one_unkept view child f (new_field q) c held.number_is refl (λ qs h. leaf_matches_no_child view child f (new_field q) t same c c.written item.1 (field_records f (writes c ∷ [])) qs h)
+      of (elements.Message t) same = search (rules, one_unkept, leaf_matches_no_child, item)
       of (elements.Scalar t) same = leaves (subst IsLeafy (sym same) tt)
       of (elements.Enum t) same = leaves (subst IsLeafy (sym same) tt)
 

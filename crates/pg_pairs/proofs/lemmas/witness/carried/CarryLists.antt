@@ -1,5 +1,5 @@
 -- Messages that reach the choices of lists.
-use Rattle.std.proofs.Common.{◌≡◌, ℕ, ◌+◌, ◌*◌, ◌≤◌, List, [], ◌∷◌, ◌++◌, length, map, filter, Bool, true, false, Option, Some, None, option_and_then, refl, ap, sym, ◌∙◌, subst, arith, append-nil, length-append, eq-eqb}
+use Rattle.std.proofs.Common.{◌≡◌, ℕ, ◌+◌, ◌*◌, ◌≤◌, List, [], ◌∷◌, ◌++◌, length, map, filter, Bool, true, false, Option, Some, None, option_and_then, refl, ap, sym, ◌∙◌, subst, arith, append-nil, length-append, eq-eqb, rules}
 use Rattle.std.proofs.lemmas.Bool.{or_right}
 use Rattle.std.specs.Str.{is_utf8, chars}
 use Rattle.pg_schema.specs.declared.parts.field.Scalar.TheVariants as scalars
@@ -12,7 +12,7 @@ use Rattle.pg_schema.specs.ShapeRules.{IsShape}
 use Rattle.pg_wire.specs.declared.record.WireType.{WireType}
 use Rattle.pg_wire.specs.declared.record.WireType.TheVariants.{Varint, I64, Len, I32}
 use Rattle.pg_wire.specs.Varint.{varint}
-use Rattle.pg_wire.specs.Records.{tag, written, length_before}
+use Rattle.pg_wire.specs.Records.{written, length_before}
 use Rattle.pg_dyn.specs.reading.Optional.{all_some}
 use Rattle.pg_dyn.specs.message.Message.{Leaf, ends, holds, Item, Part}
 use Rattle.pg_dyn.specs.word.Coding.{Form, Integer, Single, Double, Text, Raw, form, form_wire, body, leaf_in, word_bytes, zero_leaf, InRange, HasShape}
@@ -27,7 +27,7 @@ use Rattle.pg_pairs.specs.views.EnumView.{EnumView}
 use Rattle.pg_pairs.specs.gaps.Likeness.{like}
 use Rattle.pg_pairs.specs.gaps.Gaps.{body_length}
 use Rattle.pg_pairs.specs.gaps.TrueGaps.{is_alike_read, is_seen}
-use Rattle.pg_pairs.specs.choices.Costs.{with_length, least_body, one_item}
+use Rattle.pg_pairs.specs.choices.Costs.{least_body, one_item}
 use Rattle.pg_dyn.specs.laws.ByComparands.{field_read}
 use Rattle.pg_pairs.specs.bounds.Laws.{ReachedBy}
 use Rattle.pg_pairs.specs.inner.Contents.{total}
@@ -101,10 +101,7 @@ module _ (enum_view : EnumView) (old new : Shape) (shape_old : IsShape old) (sha
 
   packed_total : is_packable e ≡ true → (item : Leaf) → total (list true) (leaf_comparand item ∷ []) ≡ one_item (list true) (body_length (form e) item)
   packed_total packable item =
-      ap length (append-nil (written number Len (body (form e) item ++ [])).bytes)
-      ∙ length-len_record number (body (form e) item ++ [])
-      ∙ ap (λ bs. length (tag number Len) + with_length (length bs)) (append-nil (body (form e) item))
-      ∙ ap (λ n. length (tag number Len) + with_length n) (body_alone (form_wire (form e)) (body (form e) item) (packable_wires e packable))
+      search (rules, append-nil, length-len_record, body_alone, packable_wires)
 
   new_packable : is_packable e ≡ true → is_packable d ≡ true
   new_packable packable = packable-from_wire d (subst (λ w. same_wire Len w ≡ false) (same_wire-true _ _ (like_wire e d is_like)) (packable_wires e packable))

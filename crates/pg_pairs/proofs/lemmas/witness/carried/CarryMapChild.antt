@@ -1,5 +1,5 @@
 -- Messages that reach a child in a map's value.
-use Rattle.std.proofs.Common.{◌≡◌, ℕ, ◌+◌, ◌<◌, ◌≤◌, ◌^◌, List, [], ◌∷◌, ◌++◌, length, Bool, false, Option, Some, inr, refl, ap, ap₂, sym, ◌∙◌, subst, arith, append-nil, length-append, inl, true}
+use Rattle.std.proofs.Common.{◌≡◌, ℕ, ◌+◌, ◌<◌, ◌≤◌, ◌^◌, List, [], ◌∷◌, ◌++◌, length, Bool, false, Option, Some, inr, refl, ap, ap₂, sym, ◌∙◌, subst, arith, append-nil, length-append, inl, true, rules}
 use Rattle.pg_schema.specs.declared.parts.field.TypeId.{TypeId}
 use Rattle.pg_schema.specs.declared.parts.field.Scalar.{Scalar}
 use Rattle.pg_schema.specs.declared.parts.field.Element.TheVariants as elements
@@ -9,7 +9,7 @@ use Rattle.pg_schema.specs.ShapeRules.{IsShape}
 use Rattle.pg_wire.specs.declared.record.WireType.TheVariants.{Len}
 use Rattle.pg_wire.specs.Varint.{varint}
 use Rattle.pg_wire.specs.Records.{tag, written}
-use Rattle.pg_dyn.specs.message.Message.{Leaf, Bytes, Item, Msg, Message, ends, nests, unknown_of}
+use Rattle.pg_dyn.specs.message.Message.{Leaf, Bytes, Item, Message, ends, nests, unknown_of}
 use Rattle.pg_dyn.specs.word.Coding.{form, zero_leaf, InRange}
 use Rattle.pg_dyn.specs.encoding.Writing.{entry_bytes, records_in, bytes_of}
 use Rattle.pg_dyn.specs.encoding.Encoding.{child_type, encoded_parts, enc, cap}
@@ -23,7 +23,7 @@ use Rattle.pg_pairs.specs.gaps.TrueGaps.{is_seen, is_alike_read}
 use Rattle.pg_pairs.specs.choices.Costs.{with_length, least_body, one_item, entry_cost}
 use Rattle.pg_dyn.specs.laws.ByComparands.{is_field_kept}
 use Rattle.pg_pairs.specs.bounds.Laws.{ReachedBy}
-use Rattle.pg_pairs.specs.inner.Contents.{passes, is_child_kept}
+use Rattle.pg_pairs.specs.inner.Contents.{is_child_kept}
 use Rattle.pg_pairs.proofs.lemmas.choices.Costs.{length-len_record}
 use Rattle.pg_pairs.proofs.lemmas.bounds.Comparands.{length-entry_bytes}
 use Rattle.pg_pairs.proofs.lemmas.bounds.Single.{single_length, single_broken}
@@ -68,20 +68,11 @@ module _ (enum_view : EnumView) (old new : Shape) (shape_old : IsShape old) (sha
       same = λ i. record { number = sym number_is i; key = sym key_is i; written = sym w i; expected = sym so i }
 
       unmet : (item : Item) → read_item child (elements.Message t) (Bytes bytes) ≡ Some item → matches enum_view.alike f g (Kept test) item ≡ false
-      unmet item h =
-          let (m, read, made) = option_map_some Msg (child t bytes) item h in
-          subst (λ i. matches enum_view.alike f g (Kept test) i ≡ false) made (subst (λ x. passes test x ≡ false) read broken)
+      unmet item h = search (rules, option_map_some)
 
   pub reach_map_child : field_at (fields old pair.old) number ≡ Some f → field_at (fields new pair.new) number ≡ Some g → (child : Message) (x : ℕ) → ReachedBy enum_view old new (record { old = s; new = t }) child x → one_item f (with_length x) ≤ cap → ReachedBy enum_view old new pair (nests number (Some (zero_leaf (form (elements.Scalar k)))) child (ends [])) (one_item f (with_length x))
-  reach_map_child found at child x (breaks, length_is) small = (
-    record {
-      is_message = is;
-      is_plain = (breaks.is_plain, tt);
-      has_encoding = short;
-      not_kept = single_broken enum_view.alike old new shape_old shape_new pair.old pair.new v is (breaks.is_plain, tt) short f g found at (refl, tt) broken;
-    },
-    whole,
-  )
+  reach_map_child found at child x (breaks, length_is) small =
+      search (rules, is, short, single_broken, broken, whole)
     where
       v : Message
       v = nests number (Some zero_key) child (ends [])
@@ -136,15 +127,8 @@ module _ (enum_view : EnumView) (old new : Shape) (shape_old : IsShape old) (sha
 
   -- a gap in the key, with an empty child
   pub reach_key_gap_child : like (elements.Scalar k) (elements.Scalar l) ≡ true → field_at (fields old pair.old) number ≡ Some f → field_at (fields new pair.new) number ≡ Some g → (key : Leaf) → InRange (form (elements.Scalar k)) key → is_seen enum_view.alike (elements.Scalar k) (elements.Scalar l) key ≡ false → entry_cost number (body_length (form (elements.Scalar k)) key) (least_body (elements.Message s)) ≤ cap → ReachedBy enum_view old new pair (nests number (Some key) (ends []) (ends [])) (entry_cost number (body_length (form (elements.Scalar k)) key) (least_body (elements.Message s)))
-  reach_key_gap_child like_keys found at key range unseen small = (
-    record {
-      is_message = is;
-      is_plain = (tt, tt);
-      has_encoding = short;
-      not_kept = single_broken enum_view.alike old new shape_old shape_new pair.old pair.new v is (tt, tt) short f g found at (refl, tt) broken;
-    },
-    whole,
-  )
+  reach_key_gap_child like_keys found at key range unseen small =
+      search (rules, is, short, single_broken, broken, whole)
     where
       v : Message
       v = nests number (Some key) (ends []) (ends [])

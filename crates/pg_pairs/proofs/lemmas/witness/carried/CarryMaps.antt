@@ -1,13 +1,12 @@
 -- Messages that reach the gaps of maps of leaves.
-use Rattle.std.proofs.Common.{◌≡◌, ℕ, ◌+◌, ◌<◌, ◌≤◌, ◌^◌, [], ◌∷◌, length, true, false, Option, Some, inl, inr, refl, ap, sym, ◌∙◌, subst, arith, append-nil}
+use Rattle.std.proofs.Common.{◌≡◌, ℕ, ◌<◌, ◌≤◌, ◌^◌, [], ◌∷◌, length, true, false, Option, Some, inl, inr, refl, ap, sym, ◌∙◌, subst, arith, append-nil, rules}
 use Rattle.pg_schema.specs.declared.parts.field.Scalar.{Scalar}
 use Rattle.pg_schema.specs.declared.parts.field.Element.{Element}
 use Rattle.pg_schema.specs.declared.parts.field.Element.TheVariants as elements
 use Rattle.pg_schema.specs.declared.parts.field.Presence.TheVariants as presences
 use Rattle.pg_schema.specs.Shape.{Shape, FieldShape, fields, field_at}
 use Rattle.pg_schema.specs.ShapeRules.{IsShape}
-use Rattle.pg_wire.specs.declared.record.WireType.TheVariants.{Len}
-use Rattle.pg_wire.specs.Records.{tag, written}
+use Rattle.pg_wire.specs.Records.{written}
 use Rattle.pg_dyn.specs.message.Message.{Leaf, ends, holds, Item, Plain}
 use Rattle.pg_dyn.specs.word.Coding.{form, zero_leaf, InRange}
 use Rattle.pg_dyn.specs.encoding.Writing.{entry_bytes}
@@ -20,7 +19,7 @@ use Rattle.pg_pairs.specs.views.EnumView.{EnumView}
 use Rattle.pg_pairs.specs.gaps.Likeness.{like}
 use Rattle.pg_pairs.specs.gaps.Gaps.{body_length}
 use Rattle.pg_pairs.specs.gaps.TrueGaps.{is_alike_read, is_seen}
-use Rattle.pg_pairs.specs.choices.Costs.{with_length, least_body, entry_cost, one_item}
+use Rattle.pg_pairs.specs.choices.Costs.{least_body, entry_cost, one_item}
 use Rattle.pg_dyn.specs.laws.ByComparands.{is_field_kept}
 use Rattle.pg_pairs.specs.bounds.Laws.{ReachedBy}
 use Rattle.pg_pairs.specs.inner.Contents.{total}
@@ -44,9 +43,7 @@ module _ (enum_view : EnumView) (old new : Shape) (shape_old : IsShape old) (sha
   entry_comparand key value = record { number = number; key = Some key; written = value; expected = Alike value }
 
   entry_total : (key value : Leaf) → total f (entry_comparand key value ∷ []) ≡ entry_cost number (body_length (form (elements.Scalar k)) key) (body_length (form e) value)
-  entry_total key value =
-      ap length (append-nil (written number Len (entry_bytes k e key value)).bytes) ∙ length-len_record number (entry_bytes k e key value)
-      ∙ ap (λ n. length (tag number Len) + with_length n) (length-entry_bytes k e key value)
+  entry_total key value = search (rules, append-nil, length-len_record, length-entry_bytes)
 
   pub nested : (x : Element) → IsLeafy x → (leaf : Leaf) → IsNestedLeaf x leaf
   nested (elements.Scalar s) h leaf = tt

@@ -1,5 +1,5 @@
 -- What setting the contents of a choice makes: its message.
-use Rattle.std.proofs.Common.{◌≡◌, ℕ, ◌<◌, List, [], ◌∷◌, map, length, Bool, true, false, not, ◌&&◌, nat_eq, nat_lt, if◌then◌else◌, Option, Some, None, option_map, ◌⊎◌, inl, inr, ⊎_elim, refl, ap, ap₂, sym, ◌∙◌, subst, subst₂, append-nil, arith, eqb-true}
+use Rattle.std.proofs.Common.{◌≡◌, ℕ, ◌<◌, List, [], ◌∷◌, map, Bool, true, false, nat_lt, if◌then◌else◌, Option, Some, None, option_map, ◌⊎◌, inl, inr, ⊎_elim, refl, ap, ap₂, sym, ◌∙◌, subst, append-nil, arith, eqb-true, rules}
 use Rattle.std.specs.List.{AllByRecursion}
 use Rattle.pg_schema.specs.declared.parts.field.TypeId.{TypeId}
 use Rattle.pg_schema.specs.declared.parts.field.Element.{Element}
@@ -8,7 +8,7 @@ use Rattle.pg_schema.specs.declared.parts.field.Presence.{Presence}
 use Rattle.pg_schema.specs.declared.parts.field.Presence.TheVariants as presences
 use Rattle.std.proofs.lemmas.Bool.{and_left, and_right, cases_Bool, lt-ltb, le-ltb}
 use Rattle.pg_schema.specs.Shape.{Shape, FieldShape, fields, field_at, is_repeated}
-use Rattle.pg_schema.specs.ShapeRules.{IsField, IsShape, PresenceFits, Rising}
+use Rattle.pg_schema.specs.ShapeRules.{IsShape, Rising}
 use Rattle.pg_dyn.specs.declared.message.Content.{Content}
 use Rattle.pg_dyn.specs.declared.message.Content.TheVariants as contents
 use Rattle.pg_dyn.specs.declared.message.Value.{Value}
@@ -19,7 +19,7 @@ use Rattle.pg_dyn.specs.fitting.Belonging.{LeafFits, IsMessage}
 use Rattle.pg_dyn.specs.message.Message as model
 use Rattle.pg_dyn.specs.message.Kept.{Kept, ends, type_of, message_of}
 use Rattle.pg_dyn.specs.message.KeptParts.{KeptItem, Plain, Msg}
-use Rattle.pg_dyn.specs.reading.Content.{same_oneof, is_sibling}
+use Rattle.pg_dyn.specs.reading.Content.{same_oneof}
 use Rattle.pg_dyn.specs.message.Replacing.{kept_part, kept_onto, kept_from, is_sibling_number, with_content}
 use Rattle.pg_dyn.specs.message.Seen.{leaf_of, item_seen, content_seen}
 use Rattle.pg_dyn.specs.setting.Setting.{normalized, normalized_by, IsSetTo}
@@ -35,7 +35,7 @@ use Rattle.pg_pairs.specs.gaps.Gaps.{gap_item}
 use Rattle.pg_pairs.specs.choices.Choices.{is_oneof, Table, zero_counts, choices}
 use Rattle.pg_pairs.specs.bounds.Covering.{IsAmong}
 use Rattle.pg_pairs.specs.bounds.Laws.{ReachedBy}
-use Rattle.pg_pairs.specs.witness.Carried.{nonzero_leaf, apart_leaf, apart_item, item_by, least_leaf, least_key, least_part_of, least_part, alone, item_alone, lost_onto, key_of, key_alone, broken_value, carried_field, carried_two, carried_of, carried, field_child, child_of, choice_child}
+use Rattle.pg_pairs.specs.witness.Carried.{nonzero_leaf, item_by, least_leaf, least_key, least_part_of, least_part, alone, item_alone, lost_onto, key_alone, carried_field, carried_two, carried_of, carried, field_child, child_of, choice_child}
 use Rattle.pg_pairs.specs.witness.CarriedChoices.{ChildGiven, ChildReached}
 use Rattle.pg_pairs.specs.inner.CarriedItems.{items_before, entries_before, content_before, content_alone, Puts, value_item}
 use Rattle.pg_pairs.proofs.lemmas.witness.carried.CarryContents.{child_there_is}
@@ -56,8 +56,7 @@ value_made number key listed (values.Msg child) later = refl
 
 items_made : (number : ℕ) (xs : List Value) (later : Kept) → message_of (kept_onto (map (λ value. record { number = number; key = None; item = item_seen true value }) xs) later) ≡ items_before number xs (message_of later)
 items_made number [] later = refl
-items_made number (value ∷ xs) later =
-    value_made number None true value (kept_onto (map (λ value. record { number = number; key = None; item = item_seen true value }) xs) later) ∙ ap (with_part number None (value_item value)) (items_made number xs later)
+items_made number (value ∷ xs) later = search (rules, items_made number xs later, value_made)
 
 content_made : (number : ℕ) (content : Content) (later : Kept) → message_of (kept_onto (content_seen number content) later) ≡ content_before number content (message_of later)
 content_made number (contents.One value) later = value_made number None false value later
@@ -66,9 +65,7 @@ content_made number (contents.Map es) later = entries es.items
   where
     entries : (xs : List (Value × Value)) → message_of (kept_onto (map (λ (e : Value × Value). record { number = number; key = Some (leaf_of e.0); item = item_seen false e.1 }) xs) later) ≡ entries_before number xs (message_of later)
     entries [] = refl
-    entries (e ∷ xs) =
-        value_made number (Some (leaf_of e.0)) false e.1 (kept_onto (map (λ (x : Value × Value). record { number = number; key = Some (leaf_of x.0); item = item_seen false x.1 }) xs) later)
-        ∙ ap (with_part number (Some (leaf_of e.0)) (value_item e.1)) (entries xs)
+    entries (e ∷ xs) = search (rules, entries xs, value_made)
 
 -- at most one part
 abbrev IsShort : {A : Type 0} → List A → Type 0
@@ -129,9 +126,7 @@ carried_normalized enum_view f g cases.Gap part child = inr (item_short f.number
 carried_normalized enum_view f g cases.Child part child = inr (item_short f.number None (option_map model.Msg child))
 carried_normalized enum_view f g cases.List part child = lost_normalized f.number f.presence g.presence (item_by (λ x. zero_leaf x) f.element)
 carried_normalized enum_view f g cases.Map part child =
-    either f.presence (nat_eq part 1) _ _ (inr (key_short f.number f.element (gap_item enum_view true (elements.Scalar (key_of f.presence)) (elements.Scalar (key_of g.presence)))))
-    (either f.presence (nat_eq part 2) _ _ (inr (item_short f.number (Some (zero_leaf (form (elements.Scalar (key_of f.presence))))) (broken_value child (gap_item enum_view true f.element g.element))))
-    (inr (alone_short f.number (Some (apart_leaf (elements.Scalar (key_of f.presence)) (elements.Scalar (key_of g.presence)))) (apart_item f.element g.element))))
+    search (rules, either, key_short, item_short, alone_short)
 carried_normalized enum_view f g cases.Oneof part child = inr tt
 
 -- whether the first part is a zero
@@ -186,14 +181,7 @@ module _ (shape : Shape) (type : TypeId) where
 
   message_nonzero : (f : FieldShape) (ps : List (Part KeptItem)) → field_at (fields shape type) f.number ≡ Some f → AllByRecursion (λ (p : Part KeptItem). p.number ≡ f.number) ps → IsMessage shape type (made ps) → f.presence ≡ presences.Implicit → first_is_zero (made ps) ≡ false
   message_nonzero f [] found own m implicit = refl
-  message_nonzero f (p ∷ ps) found own m implicit = item p.item m
-    where
-      item : (x : KeptItem) → IsMessage shape type (message_of (kept_part p.number p.key x (kept_from type ps []))) → first_is_zero (message_of (kept_part p.number p.key x (kept_from type ps []))) ≡ false
-      item (Msg listed child) m = refl
-      item (Plain listed leaf) m =
-          let field_is : m.0.field ≡ f = one_found (fields shape type) f.number m.0.field f (ap (field_at (fields shape type)) (sym own.0) ∙ m.0.found) found in
-          let fits : LeafFits f leaf = subst (λ (g : FieldShape). LeafFits g leaf) field_is m.1 in
-          not_zero_at f.number f.element f.oneof leaf (subst (λ q. LeafFits (record { number = f.number; presence = q; element = f.element; oneof = f.oneof }) leaf) implicit fits)
+  message_nonzero f (p ∷ ps) found own m implicit = search (rules, one_found, not_zero_at)
 
   with_content_empty : (fs : List FieldShape) (f : FieldShape) (qs : List (Part KeptItem)) → with_content fs f qs (ends type []) ≡ kept_from type qs []
   with_content_empty fs f qs = ap (λ x. kept_from type x []) (append-nil qs)
@@ -202,18 +190,14 @@ module _ (enum_view : EnumView) (old new : Shape) (table : Table) (law : IsEnumV
   -- A choice of one field: its content stays as it is where it is set, and makes the choice's message.
   module _ (single : is_oneof c.case ≡ false) (f g : FieldShape) (found : field_at (fields old pair.old) c.number ≡ Some f) (at : field_at (fields new pair.new) c.number ≡ Some g) (own : f.number ≡ c.number) where
     pub carried_is : (child : Option Message) → carried enum_view old new pair c child ≡ carried_field enum_view f g c.case c.part child
-    carried_is child =
-        ap₂ (λ x y. carried_of enum_view x y (field_at (fields old pair.old) c.part) c child) found at
-        ∙ ap (λ (b : Bool). if b then carried_two f (field_at (fields old pair.old) c.part) else carried_field enum_view f g c.case c.part child) single
+    carried_is child = search rules
 
     child_is : choice_child old new pair c ≡ field_child f g c.case c.part
     child_is = ap₂ (λ x y. child_of x y c) found at
 
     -- an implicit field holds no message
     not_implicit : (type : TypeId) → f.element ≡ elements.Message type → f.presence ≡ presences.Implicit → ⊥
-    not_implicit type element implicit =
-        let fits = (each_at (IsField (length old)) (fields old pair.old) c.number f found (fields_are_found.0 old pair.old shape_old).each).presence_fits in
-        subst₂ (λ p e. PresenceFits p e f.oneof) implicit element fits
+    not_implicit type element implicit = search (rules, each_at, fields_are_found)
 
     -- the content of an implicit field isn't zero
     nonzero : (content : Content) (child : Option Kept) → made old pair.old (content_seen c.number content) ≡ carried_field enum_view f g c.case c.part (option_map message_of child) → ChildGiven old (choice_child old new pair c) child → f.presence ≡ presences.Implicit → first_is_zero (made old pair.old (content_seen c.number content)) ≡ false
@@ -254,15 +238,7 @@ apart_sym a b h = ⊎_elim (λ same. absurd (let yes = siblings_mutual.0 b a sam
 
 not_sibling : (fs : List FieldShape) → Rising fs → (f e : FieldShape) → field_at fs f.number ≡ Some f → same_oneof e.oneof f.oneof ≡ false → is_sibling_number fs e f.number ≡ false
 not_sibling fs rising f e found apart =
-    list_any_none (λ g. is_sibling e g && nat_eq g.number f.number) fs
-    (each_weaker (λ (g : FieldShape). field_at fs g.number ≡ Some g) (λ g. (is_sibling e g && nat_eq g.number f.number) ≡ false) (λ g there. of g there (nat_eq g.number f.number) refl) fs (fields_are_found.2 fs rising))
-  where
-    of : (g : FieldShape) → field_at fs g.number ≡ Some g → (b : Bool) → nat_eq g.number f.number ≡ b → (is_sibling e g && nat_eq g.number f.number) ≡ false
-    of g there false h = and_right (is_sibling e g) (nat_eq g.number f.number) h
-    of g there true h =
-        let same : g ≡ f = one_found fs f.number g f (ap (field_at fs) (sym (eqb-true g.number f.number h)) ∙ there) found in
-        and_left (is_sibling e g) (nat_eq g.number f.number)
-        (and_left (same_oneof e.oneof g.oneof) (not (nat_eq e.number g.number)) (subst (λ (x : FieldShape). same_oneof e.oneof x.oneof ≡ false) (sym same) apart))
+    search (rules, list_any_none, each_weaker, fields_are_found, and_right, one_found, eqb-true, and_left)
 
 module _ (type : TypeId) where
   -- a content set after one part of a lower number that isn't in its oneof

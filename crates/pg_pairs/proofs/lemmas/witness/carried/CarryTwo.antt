@@ -1,5 +1,5 @@
 -- A list of messages beside one explicit message: two empty ones are read as one.
-use Rattle.std.proofs.Common.{◌≡◌, ℕ, ◌*◌, ◌≤◌, [], ◌∷◌, ◌++◌, length, false, not, Option, Some, None, inr, refl, ap, sym, ◌∙◌, subst, arith, length-append, eq-eqb}
+use Rattle.std.proofs.Common.{◌≡◌, ℕ, ◌*◌, ◌≤◌, [], ◌∷◌, ◌++◌, length, false, not, Option, Some, None, inr, refl, ap, sym, ◌∙◌, subst, arith, length-append, eq-eqb, rules}
 use Rattle.std.proofs.lemmas.Bool.{and_right}
 use Rattle.pg_schema.specs.declared.parts.field.TypeId.{TypeId}
 use Rattle.pg_schema.specs.declared.parts.field.Element.TheVariants as elements
@@ -44,15 +44,7 @@ module _ (enum_view : EnumView) (old new : Shape) (shape_old : IsShape old) (sha
       omega (arith, first, second, body_c, body_d, length-item_record number (elements.Message s) c.written, length-item_record number (elements.Message s) d.written)
 
   pub reach_two_children : field_at (fields old pair.old) number ≡ Some f → field_at (fields new pair.new) number ≡ Some g → 2 * one_item f (least_body (elements.Message s)) ≤ cap → ReachedBy enum_view old new pair (nests number None (ends []) (nests number None (ends []) (ends []))) (2 * one_item f (least_body (elements.Message s)))
-  reach_two_children found at small = (
-    record {
-      is_message = is;
-      is_plain = (tt, (tt, tt));
-      has_encoding = short;
-      not_kept = single_broken enum_view.alike old new shape_old shape_new pair.old pair.new v is (tt, (tt, tt)) short f g found at (refl, (refl, tt)) broken;
-    },
-    whole,
-  )
+  reach_two_children found at small = search (rules, is, short, single_broken, broken, whole)
     where
       v : Message
       v = nests number None (ends []) (nests number None (ends []) (ends []))

@@ -1,5 +1,5 @@
 -- Messages that reach the choice of two maps whose keys or values are unlike: one entry, whose unlike part isn't read as itself.
-use Rattle.std.proofs.Common.{◌≡◌, ℕ, pos, ◌+◌, ◌<◌, ◌≤◌, ◌^◌, List, [], ◌∷◌, ◌++◌, length, Bool, false, ◌&&◌, nat_eq, Option, Some, None, ◌⊎◌, inl, inr, ⊎_elim, refl, ap, sym, ◌∙◌, subst, arith, append-nil}
+use Rattle.std.proofs.Common.{◌≡◌, ℕ, pos, ◌+◌, ◌<◌, ◌≤◌, ◌^◌, List, [], ◌∷◌, ◌++◌, length, Bool, false, nat_eq, Option, Some, None, ◌⊎◌, inl, inr, ⊎_elim, refl, ap, sym, ◌∙◌, subst, arith, append-nil, rules}
 use Rattle.std.specs.List.{AllByRecursion}
 use Rattle.std.proofs.lemmas.Bool.{and_left, and_right, cases_Bool}
 use Rattle.pg_schema.specs.declared.parts.field.TypeId.{TypeId}
@@ -8,20 +8,20 @@ use Rattle.pg_schema.specs.declared.parts.field.Scalar.TheVariants as scalars
 use Rattle.pg_schema.specs.declared.parts.field.Element.{Element}
 use Rattle.pg_schema.specs.declared.parts.field.Element.TheVariants as elements
 use Rattle.pg_schema.specs.declared.parts.field.Presence.TheVariants as presences
-use Rattle.pg_schema.specs.Shape.{Shape, FieldShape, fields, field_at, is_packable}
+use Rattle.pg_schema.specs.Shape.{Shape, FieldShape, fields, field_at}
 use Rattle.pg_schema.specs.ShapeRules.{IsShape}
 use Rattle.pg_wire.specs.declared.record.WireType.TheVariants.{Len}
 use Rattle.pg_wire.specs.Varint.{varint}
 use Rattle.pg_wire.specs.Records.{WireRecord, tag, written}
 use Rattle.pg_dyn.specs.reading.Optional.{first_or}
-use Rattle.pg_dyn.specs.message.Message.{Leaf, Int, Bytes, Item, Plain, Msg, Message, ends, holds, nests, leaf_eq}
+use Rattle.pg_dyn.specs.message.Message.{Leaf, Int, Bytes, Item, Plain, Message, ends, holds, nests, leaf_eq}
 use Rattle.pg_dyn.specs.word.Coding.{Form, Integer, Single, Double, Text, Raw, form, form_wire, word_bytes, zero_leaf, InRange}
-use Rattle.pg_dyn.specs.reading.Content.{same_wire, is_accepted, takes, plain_content, key_field, value_field, entry_part, leaf_bytes}
+use Rattle.pg_dyn.specs.reading.Content.{same_wire, is_accepted, takes, key_field, value_field, entry_part}
 use Rattle.pg_dyn.specs.encoding.Writing.{item_record, entry_bytes, records_in, bytes_of}
 use Rattle.pg_dyn.specs.encoding.Encoding.{child_type, enc, cap}
 use Rattle.pg_dyn.specs.reading.Decoding.{read_item, dec}
 use Rattle.pg_dyn.specs.fitting.Belonging.{IsMessage}
-use Rattle.pg_dyn.specs.views.Comparison.{View, Alike, matches, alike_leaves, same_message, unshared_bytes, Kept, Comparand}
+use Rattle.pg_dyn.specs.views.Comparison.{View, Alike, matches, same_message, unshared_bytes, Kept, Comparand}
 use Rattle.pg_dyn.proofs.Lists.{filter_none, option_map_some}
 use Rattle.pg_pairs.proofs.lemmas.bounds.Packed.{Reads}
 use Rattle.pg_dyn.specs.laws.Bodies.{IsNestedLeaf}
@@ -85,9 +85,7 @@ abbrev part_field : ℕ → Element → FieldShape
 part_field n d = record { number = n; presence = presences.Explicit; element = d; oneof = None }
 
 part_kind : (n : ℕ) (d : Element) → IsLeafy d → (rs : List WireRecord) (y : Leaf) → entry_part (part_field n d) rs ≡ Some y → IsOfForm (form d) y
-part_kind n d leafy rs y h =
-    let (leaves, content_is, made) = option_map_some (first_or (zero_leaf (form d))) (plain_content (part_field n d) _) y h in
-    subst (IsOfForm (form d)) made (first_kind (form d) leaves (content_kind (part_field n d) leafy _ leaves content_is))
+part_kind n d leafy rs y h = search (rules, option_map_some, first_kind, content_kind)
 
 -- without a record the part is its default
 part_default : (n : ℕ) (d : Element) → IsLeafy d → (rs : List WireRecord) → AllByRecursion (λ r. takes (part_field n d) r ≡ false) rs → entry_part (part_field n d) rs ≡ Some (zero_leaf (form d))
@@ -97,9 +95,7 @@ part_default n (elements.Message t) leafy rs h = absurd leafy
 
 untaken_own : (m n : ℕ) (e d : Element) (leaf : Leaf) → same_wire (form_wire (form e)) (form_wire (form d)) ≡ false → takes (part_field n d) (item_record m e leaf) ≡ false
 unfolding written
-untaken_own m n e d leaf wires =
-    let accepted : is_accepted (part_field n d) (item_record m e leaf) ≡ false = rw wires (and_left (same_wire (form_wire (form e)) Len && false) (is_packable d) (and_right (same_wire (form_wire (form e)) Len) false refl)) in
-    and_right (nat_eq m n) (is_accepted (part_field n d) (item_record m e leaf)) accepted
+untaken_own m n e d leaf wires = search (rules, and_left, and_right)
 
 untaken_other : (m n : ℕ) (e d : Element) (leaf : Leaf) → nat_eq m n ≡ false → takes (part_field n d) (item_record m e leaf) ≡ false
 unfolding written
@@ -153,11 +149,7 @@ module _ (k l : Scalar) (e d : Element) (key value : Leaf) (key_reads : Reads (f
 
 -- what a child, or a leaf beside a child, is read as isn't met
 leaf_unmet : (view : View) (f g : FieldShape) (d : Element) (leaf y : Leaf) → (leaf ≡ y → ⊥) → (read : (x : Leaf) → Option Item) → IsLeafy d → ((x : Leaf) → read x ≡ Some (Plain x)) → (item : Item) → read y ≡ Some item → matches view f g (Alike leaf) item ≡ false
-leaf_unmet view f g d leaf y apart read leafy plain item h =
-    let equal : ◌≡◌ {A = Option Item} (Some (Plain y)) (Some item) = sym (plain y) ∙ h in
-    let same : Plain y ≡ item = cc in
-    subst (λ i. matches view f g (Alike leaf) i ≡ false) same
-    (⊎_elim (λ alike. absurd (apart (alike_equal view f.element g.element leaf y alike))) (λ no. no) (cases_Bool (alike_leaves view f.element g.element leaf y)))
+leaf_unmet view f g d leaf y apart read leafy plain item h = search (rules, alike_equal, cases_Bool)
 
 -- Two maps whose keys or whose values are unlike; the key and the value of the entry are least, and 1 where they are unlike integers.
 module _ (enum_view : EnumView) (old new : Shape) (shape_old : IsShape old) (shape_new : IsShape new) (pair : Pair) (number : ℕ) (d : Element) (o r : Option ℕ) (k l : Scalar) where
@@ -173,18 +165,8 @@ module _ (enum_view : EnumView) (old new : Shape) (shape_old : IsShape old) (sha
       ⊎ ((like e d ≡ false) × (value ≡ far_leaf (form e)))
 
   leaf_value_unmet : (e : Element) → IsLeafy e → like e d ≡ false → (value y : Leaf) → (IsLeafy d → value ≡ y → ⊥) → (item : Item) → read_item (dec new) d y ≡ Some item → matches enum_view.alike (map_of e) beside (Alike value) item ≡ false
-  leaf_value_unmet e leafy unlike value y apart item h = of d refl
-    where
-      of : (x : Element) → d ≡ x → matches enum_view.alike (map_of e) beside (Alike value) item ≡ false
-      of (elements.Message t) is =
-          let (m, read, made) = option_map_some Msg (dec new t (leaf_bytes y)) item (subst (λ z. read_item (dec new) z y ≡ Some item) is h) in
-          subst (λ i. matches enum_view.alike (map_of e) beside (Alike value) i ≡ false) made refl
-      of (elements.Scalar s) is =
-          let leafy_new : IsLeafy d = subst IsLeafy (sym is) tt in
-          leaf_unmet enum_view.alike (map_of e) beside d value y (apart leafy_new) (read_item (dec new) d) leafy_new (leafy_reader (dec new) d leafy_new).read_is item h
-      of (elements.Enum s) is =
-          let leafy_new : IsLeafy d = subst IsLeafy (sym is) tt in
-          leaf_unmet enum_view.alike (map_of e) beside d value y (apart leafy_new) (read_item (dec new) d) leafy_new (leafy_reader (dec new) d leafy_new).read_is item h
+  leaf_value_unmet e leafy unlike value y apart item h =
+      search (rules, option_map_some, leaf_unmet, leafy_reader)
 
   -- a map of leaves
   pub reach_far_leaves : (e : Element) (leafy : IsLeafy e) → field_at (fields old pair.old) number ≡ Some (map_of e) → field_at (fields new pair.new) number ≡ Some beside → (key value : Leaf) → InRange (form (elements.Scalar k)) key → InRange (form e) value → IsFar e key value → entry_cost number (body_length (form (elements.Scalar k)) key) (body_length (form e) value) ≤ cap → ReachedBy enum_view old new pair (holds number (Some key) value (ends [])) (entry_cost number (body_length (form (elements.Scalar k)) key) (body_length (form e) value))
@@ -205,15 +187,8 @@ module _ (enum_view : EnumView) (old new : Shape) (shape_old : IsShape old) (sha
 
   -- a map of messages, with an empty one
   pub reach_far_child : (s : TypeId) → field_at (fields old pair.old) number ≡ Some (map_of (elements.Message s)) → field_at (fields new pair.new) number ≡ Some beside → (key : Leaf) → InRange (form (elements.Scalar k)) key → ((like (elements.Scalar k) (elements.Scalar l) ≡ false) × (key ≡ far_leaf (form (elements.Scalar k)))) ⊎ (like (elements.Message s) d ≡ false) → entry_cost number (body_length (form (elements.Scalar k)) key) (least_body (elements.Message s)) ≤ cap → ReachedBy enum_view old new pair (nests number (Some key) (ends []) (ends [])) (entry_cost number (body_length (form (elements.Scalar k)) key) (least_body (elements.Message s)))
-  reach_far_child s found at key range far small = (
-    record {
-      is_message = is;
-      is_plain = (tt, tt);
-      has_encoding = short;
-      not_kept = single_broken enum_view.alike old new shape_old shape_new pair.old pair.new v is (tt, tt) short f beside found at (refl, tt) broken;
-    },
-    whole,
-  )
+  reach_far_child s found at key range far small =
+      search (rules, is, short, single_broken, broken, whole)
     where
       f : FieldShape
       f = map_of (elements.Message s)
@@ -255,18 +230,7 @@ module _ (enum_view : EnumView) (old new : Shape) (shape_old : IsShape old) (sha
 
       -- a leaf that is read in place of a child
       unmet : like (elements.Message s) d ≡ false → (y : Leaf) (item : Item) → read_item (dec new) d y ≡ Some item → matches enum_view.alike f beside (Kept test) item ≡ false
-      unmet unlike y item h = of d refl
-        where
-          plainly : IsLeafy d → matches enum_view.alike f beside (Kept test) item ≡ false
-          plainly leafy =
-              let equal : ◌≡◌ {A = Option Item} (Some (Plain y)) (Some item) = sym ((leafy_reader (dec new) d leafy).read_is y) ∙ h in
-              let same : Plain y ≡ item = cc in
-              subst (λ i. matches enum_view.alike f beside (Kept test) i ≡ false) same refl
-
-          of : (x : Element) → d ≡ x → matches enum_view.alike f beside (Kept test) item ≡ false
-          of (elements.Message t) same = absurd (let no : like (elements.Message s) (elements.Message t) ≡ false = subst (λ x. like (elements.Message s) x ≡ false) same unlike in cc)
-          of (elements.Scalar t) same = plainly (subst IsLeafy (sym same) tt)
-          of (elements.Enum t) same = plainly (subst IsLeafy (sym same) tt)
+      unmet unlike y item h = search (rules, leafy_reader)
 
       broken : is_field_kept enum_view.alike (dec new) f beside (c ∷ []) ≡ false
       broken =

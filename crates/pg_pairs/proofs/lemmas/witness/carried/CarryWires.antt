@@ -1,5 +1,5 @@
 -- Integers of two wire types: what is written of the one isn't read as one item of the other.
-use Rattle.std.proofs.Common.{◌≡◌, ℕ, List, [], ◌∷◌, ◌++◌, map, filter, Bool, true, false, ◌&&◌, nat_eq, Option, Some, None, option_map, ◌⊎◌, inl, inr, ⊎_elim, refl, ap, sym, ◌∙◌, subst, arith, append-nil, eq-eqb}
+use Rattle.std.proofs.Common.{◌≡◌, ℕ, List, [], ◌∷◌, ◌++◌, map, filter, Bool, true, false, ◌&&◌, Option, Some, None, option_map, ◌⊎◌, inl, inr, ⊎_elim, refl, ap, sym, ◌∙◌, subst, arith, append-nil, eq-eqb, rules}
 use Rattle.std.specs.List.{AllByRecursion}
 use Rattle.std.proofs.lemmas.Bool.{and_right, cases_Bool}
 use lib.Pointwise.{pointwise}
@@ -15,8 +15,8 @@ use Rattle.pg_wire.specs.Varint.{varint_at}
 use Rattle.pg_wire.specs.Records.{written}
 use Rattle.pg_dyn.specs.reading.Optional.{all_some, joined}
 use Rattle.pg_dyn.specs.message.Message.{Leaf, Item, Part, is_of}
-use Rattle.pg_dyn.specs.word.Coding.{Form, Integer, Single, Double, Text, Raw, form, form_wire, body, leaf_in, element_at, zero_leaf}
-use Rattle.pg_dyn.specs.reading.Content.{same_wire, own_wire, is_accepted, takes, option_from, leaves_in, packed_leaves, plain_content, content}
+use Rattle.pg_dyn.specs.word.Coding.{Form, Integer, Single, Double, Text, Raw, form, form_wire, body, element_at, zero_leaf}
+use Rattle.pg_dyn.specs.reading.Content.{same_wire, takes, option_from, leaves_in, plain_content, content}
 use Rattle.pg_dyn.specs.encoding.Writing.{item_record, field_records}
 use Rattle.pg_dyn.specs.reading.Decoding.{Reader, read_item, read_part}
 use Rattle.pg_dyn.specs.views.Comparison.{View, Expected, same_key, matches, Comparand, writes, expects}
@@ -97,10 +97,7 @@ same_wire_sym I32 I32 h = h
 pub wire_untaken : (child : Reader) (f g : FieldShape) → NotMap child g → is_packable f.element ≡ true → same_wire (form_wire (form f.element)) (form_wire (form g.element)) ≡ false → (leaf : Leaf) → takes g (item_record f.number f.element leaf) ≡ false
 unfolding written
 wire_untaken child f g plain packable wires leaf =
-    let own : same_wire (form_wire (form f.element)) (own_wire g) ≡ false = rw plain.own wires in
-    let not_len : same_wire (form_wire (form f.element)) Len ≡ false = same_wire_sym Len (form_wire (form f.element)) (packable_wires f.element packable) in
-    let accepted : is_accepted g (item_record f.number f.element leaf) ≡ false = rw (own, not_len) in
-    and_right (nat_eq f.number g.number) (is_accepted g (item_record f.number f.element leaf)) accepted
+    search (rules, same_wire_sym, packable_wires, and_right)
 
 -- One packed zero, read in a row of another wire type: two items or more, or no reading.
 
@@ -132,12 +129,7 @@ zero_rows I32 Len h a b = absurd (cc)
 long_all_some : {A B : Type 0} (g : A → Option B) (xs : List A) → IsLong xs → (ys : List B) → all_some (map g xs) ≡ Some ys → IsLong ys
 long_all_some g [] k ys h = absurd k
 long_all_some g (x ∷ []) k ys h = absurd k
-long_all_some {A} {B} g (x ∷ y ∷ xs) k ys h =
-    let (a, here, more) = and_then_some (λ z. option_map (λ zs. z ∷ zs) (all_some (map g (y ∷ xs)))) (g x) ys h in
-    let (bs, later, made) = option_map_some (λ (zs : List B). a ∷ zs) (all_some (map g (y ∷ xs))) ys more in
-    let (b, there, rest) = and_then_some (λ z. option_map (λ zs. z ∷ zs) (all_some (map g xs))) (g y) bs later in
-    let (cs, last, joined_is) = option_map_some (λ (zs : List B). b ∷ zs) (all_some (map g xs)) bs rest in
-    subst IsLong made (subst (λ (zs : List B). IsLong (a ∷ zs)) joined_is tt)
+long_all_some {A} {B} g (x ∷ y ∷ xs) k ys h = search (rules, and_then_some, option_map_some)
 
 too_long : {A B : Type 0} (R : A → B → Bool) (x : A) (ys : List B) → IsLong ys → pointwise R (x ∷ []) ys ≡ false
 too_long R x [] h = absurd h
@@ -166,21 +158,13 @@ module _ (view : View) (child : Reader) (number : ℕ) (e d : Element) (o r : Op
   abbrev g : FieldShape
   g = record { number = number; presence = presences.Repeated w; element = d; oneof = r }
 
-  abbrev the_body : List ℕ
-  the_body = body (form e) c.written ++ []
-
   body_is : body (form e) c.written ++ [] ≡ zero_bytes (form_wire (form e))
   body_is = append-nil (body (form e) c.written) ∙ ap (body (form e)) written_is ∙ zero_written e
 
   leaves_long : (leaves : List Leaf) → leaves_in g (written number Len (body (form e) c.written ++ [])) ≡ Some leaves → IsLong leaves
   unfolding written
   leaves_long leaves h =
-      let packed : packed_leaves (form d) (body (form e) c.written ++ []) ≡ Some leaves = rw (packable_wires d packable_new) at h in
-      let (bodies, rows, all) = and_then_some (λ bs. all_some (map (leaf_in (form d)) bs)) (option_from (row (element_at (form_wire (form d))) (body (form e) c.written ++ []))) leaves packed in
-      long_all_some (leaf_in (form d)) bodies
-      (long_bodies (option_from (row (element_at (form_wire (form d))) (zero_bytes (form_wire (form e))))) bodies
-      (zero_rows (form_wire (form e)) (form_wire (form d)) wires (packable_wires e packable_old) (packable_wires d packable_new))
-      (ap (λ bs. option_from (row (element_at (form_wire (form d))) bs)) (sym body_is) ∙ rows)) leaves all
+      search (rules, packable_wires, and_then_some, long_all_some, long_bodies, zero_bytes, zero_rows, body_is)
 
   content_long : (ps : List (Part Leaf)) → content g (written number Len (body (form e) c.written ++ []) ∷ []) ≡ Some ps → IsLong ps × AllByRecursion (λ (p : Part Leaf). p.number ≡ number) ps
   content_long ps h =
