@@ -18,8 +18,8 @@ mod set_files;
 mod set_names;
 mod walk;
 
-ghost use Rattle.std.specs.Prelude.{◌≡◌, ◌⊎◌, ℕ, List, None, Some, IfErr, IfOk, OnOk, map};
-ghost use Rattle.std.specs.List.{list_all};
+ghost use Rattle.std.specs.Prelude.{◌≡◌, ◌⊎◌, ◌<◌, ℕ, List, None, Some, IfErr, IfOk, OnOk, length, map};
+ghost use Rattle.std.specs.List.{AllByRecursion, list_all};
 ghost use Rattle.pg_schema.specs.declared.parts.Parts.{Parts as StatedParts};
 ghost use Rattle.pg_dyn.specs.reading.Decoding.{dec};
 ghost use Rattle.pg_dyn.specs.reading.Refusals.{MayRefuse};
@@ -29,10 +29,8 @@ ghost use Rattle.pg_set.specs.declared.error.Unstated.TheVariants.{Memory};
 ghost use Rattle.pg_set.specs.round_trip.Readable.{IsReadable};
 ghost use Rattle.pg_set.specs.descriptor.Descriptor.{written_shape, file_set};
 ghost use Rattle.pg_set.specs.stated.Reads.{IsNotTooDeep, fds_reads};
-ghost use Rattle.pg_set.specs.inner.reading.FilePlaces.{AreOrdered};
 ghost use Rattle.pg_set.specs.inner.reading.Held.{IsHeldMessage};
 ghost use Rattle.pg_set.specs.inner.reading.OutlinedRows.{files_at};
-ghost use Rattle.pg_set.specs.stated.PostOrder.{importer_of};
 ghost use Rattle.pg_set.specs.refusals.Refused.{MayRefuseFiles, MayRefuseParts, NoPartsAreStated};
 ghost use Rattle.pg_set.specs.inner.reading.RefusedParts.{IsOfParts};
 ghost use Rattle.pg_set.specs.stated.FileMessages.{is_proto3, kept_files, skips};
@@ -102,7 +100,7 @@ fn parts(
     files: &[SetMessage<'_, '_>],
     order: &[usize],
 ) -> Result<Parts, Unstated>
-    requires { AreOrdered (map (importer_of skips) (map message_of files.now)) order.now }
+    requires { AllByRecursion (λ place. place < length files.now) order.now }
     ensures made { IfOk result (λ made.
         declared_by skips (files_at (map message_of files.now) order.now)
         ≡ Some (parts_view made)) }

@@ -3,6 +3,5 @@ pub mod Walking
 pub mod Visited
 pub mod Ordering
 pub mod OrderSteps
-pub mod FilesInOrder
 pub mod VisitLaws
 pub mod StatedOrder

@@ -1,14 +1,14 @@
 //! The order of a set's files: each after those that it imports.
 
-ghost use Rattle.std.specs.Prelude.{◌≡◌, ◌⊎◌, false, true, ℕ, List, Some, None, IfErr, IfOk, OnOk, map};
-ghost use Rattle.std.specs.List.{list_all};
+ghost use Rattle.std.specs.Prelude.{◌≡◌, ◌⊎◌, ◌<◌, false, true, ℕ, List, Some, None, IfErr, IfOk, OnOk, length, map};
+ghost use Rattle.std.specs.List.{AllByRecursion, list_all};
 ghost use Rattle.pg_schema.specs.rules.Pairs.{are_distinct};
 ghost use Rattle.pg_schema.specs.rules.TextSets.{is_among};
 ghost use Rattle.pg_dyn.specs.message.Kept.{message_of};
 ghost use Rattle.pg_set.specs.declared.descriptor.proto.TheConstants.{FILE_DEPENDENCY};
 ghost use Rattle.pg_set.specs.declared.error.Unstated.TheVariants as errors;
 ghost use Rattle.pg_set.specs.inner.Lent.{lent};
-ghost use Rattle.pg_set.specs.inner.reading.FilePlaces.{AreOrdered, ImportsAt, IsIndex, StandAt, importer, importers, HasNoOrder};
+ghost use Rattle.pg_set.specs.inner.reading.FilePlaces.{ImportsAt, IsIndex, StandAt, importer, importers, HasNoOrder};
 ghost use Rattle.pg_set.specs.inner.reading.OutlinedRows.{files_at};
 ghost use Rattle.pg_set.specs.stated.PostOrder.{importer_of, imports_once, kept_paths, paths_of};
 ghost use Rattle.pg_set.specs.stated.SetMessages.{texts_at};
@@ -103,17 +103,6 @@ fn all_imported(alloc: Global, files: &[Importing<'_>]) -> Result<Vec<Vec<usize>
     Ok(all)
 }
 
-// The indices of the files in post-order of imports, begun at the files in their order. Refused,
-// memory aside, only where they have none.
-fn order_of(alloc: Global, files: &[Importing<'_>]) -> Result<Vec<usize>, Unstated>
-    ensures ok { IfOk result (λ order. AreOrdered (importers files.now) order.items) }
-    ensures refused { IfErr result (λ e. (e ≡ errors.Memory)
-        ⊎ HasNoOrder (importers files.now)) }
-{
-    let imported = all_imported(alloc, files)?;
-    post_order(alloc, &imported)
-}
-
 // The paths that a file imports, without those that are left out.
 fn kept_imports<'b, 'a>(
     alloc: Global,
@@ -170,15 +159,14 @@ pub(crate) fn order(
     skips: bool,
     files: &[SetMessage<'_, '_>],
 ) -> Result<Vec<usize>, Unstated>
-    ensures ok { IfOk result (λ order. AreOrdered
-        (map (importer_of skips) (map message_of files.now)) order.items) }
+    ensures within { IfOk result (λ order.
+        AllByRecursion (λ place. place < length files.now) order.items) }
     ensures in_order { IfOk result (λ order. in_post_order skips (map message_of files.now)
         ≡ Some (files_at (map message_of files.now) order.items)) }
-    ensures refused { IfErr result (λ e. (e ≡ errors.Memory)
-        ⊎ HasNoOrder (map (importer_of skips) (map message_of files.now))) }
     ensures none { IfErr result (λ e. (e ≡ errors.Memory)
         ⊎ (in_post_order skips (map message_of files.now) ≡ None)) }
 {
     let found = importing_files(alloc, skips, files)?;
-    order_of(alloc, &found)
+    let imported = all_imported(alloc, &found)?;
+    post_order(alloc, &imported)
 }

@@ -1,11 +1,7 @@
 -- Marks of indices, and lists with one more at the end.
-use Rattle.std.proofs.Common.{◌≡◌, ℕ, zero, suc, ◌<◌, Bool, false, ◌||◌, nat_eq, List, [], ◌∷◌, ◌++◌, length, drop, set, Some, slice_get, refl, ap, subst, arith, rules}
-use Rattle.std.proofs.lemmas.Bool.Decides.{nat_tests}
+use Rattle.std.proofs.Common.{◌≡◌, ℕ, zero, suc, ◌<◌, Bool, ◌||◌, List, [], ◌∷◌, ◌++◌, length, drop, set, Some, slice_get, refl, ap, subst, arith, rules}
 use Rattle.std.proofs.lemmas.Option.{none-some, same_Some}
 use Rattle.std.specs.List.{AllByRecursion, list_any}
-
-pub other_number : (a b : ℕ) → nat_eq a b ≡ false → a ≡ b → ⊥
-other_number a b e h = grind (arith, nat_tests)
 
 -- ---- one index marked
 
@@ -20,11 +16,6 @@ set_elsewhere (y ∷ xs) zero zero x h = absurd (h refl)
 set_elsewhere (y ∷ xs) zero (suc j) x h = refl
 set_elsewhere (y ∷ xs) (suc i) zero x h = refl
 set_elsewhere (y ∷ xs) (suc i) (suc j) x h = set_elsewhere xs i j x (λ e. h (ap suc e))
-
-pub found_within : {A : Type 0} (xs : List A) (i : ℕ) (x : A) → slice_get xs i ≡ Some x → i < length xs
-found_within [] i x is = absurd (none-some x is)
-found_within (y ∷ xs) zero x is = omega arith
-found_within (y ∷ xs) (suc i) x is = let below = found_within xs i x is in omega (arith, below)
 
 -- ---- one more at the end
 

@@ -2,7 +2,7 @@
 use Rattle.std.proofs.Common.{◌≡◌, ◌↔◌, ℕ, zero, suc, ◌<◌, ◌⊎◌, inl, inr, Bool, true, false, cond, nat_eq, ◌||◌, List, [], ◌∷◌, ◌++◌, length, map, String, Option, Some, None, slice_get, unwrap_or, refl, ap, ap₂, sym, subst, ◌∙◌, arith, rules}
 use Rattle.std.proofs.lemmas.Bool.{false≢true}
 use Rattle.std.proofs.lemmas.List.{length-map, map-append}
-use Rattle.std.proofs.lemmas.Option.{none-some, same_Some}
+use Rattle.std.proofs.lemmas.Option.{none-some, same_Some, slice_get_within}
 use Rattle.std.proofs.lemmas.Slice.Eq.{bytes_eq-Decides}
 use Rattle.std.specs.BTreeMap.{BTreeMap, get_by_text}
 use Rattle.std.specs.List.{AllByRecursion, list_all, list_any}
@@ -15,7 +15,6 @@ use Rattle.pg_set.specs.inner.reading.FilePlaces.{ImportsAt, IsIndex, StandAt, n
 use Rattle.pg_schema.specs.standing.Visits.{Visits, all_visited, listed_last, passed_over}
 use Rattle.pg_set.specs.stated.PostOrder.{Importer, imports_at, paths_of}
 use Rattle.pg_set.specs.inner.reading.Walks.{AreWithin, Falls, Walks}
-use Rattle.pg_set.proofs.lemmas.lists.Marks.{found_within}
 use Rattle.pg_set.proofs.lemmas.order.Visited.{Among, Text, behind_at, imports_found, rank, there_at}
 use Rattle.pg_set.proofs.lemmas.lists.Tests.{or_right, same_number, itself}
 
@@ -49,7 +48,7 @@ index_here : (paths : List Text) (key path : Text) (place : ℕ) → key ≡ pat
 index_here paths key path place same none = search (rules, same_Some, last_at, either_at, no_other)
 
 index_elsewhere : (paths : List Text) (key path : Text) (place : ℕ) (found : Option ℕ) → (key ≡ path → ⊥) → Reads paths path place found → Reads (paths ++ key ∷ []) path place found
-index_elsewhere paths key path place found other reads = search (rules, front_at, found_within, either_at)
+index_elsewhere paths key path place found other reads = search (rules, front_at, slice_get_within, either_at)
 
 pub index_more : {Y : Type 0} (paths : List Text) (key : Text) (i : ℕ) (old new : BTreeMap (String Y) ℕ) → i ≡ length paths → get_by_text old key ≡ None
     → ((cs : Text) → get_by_text new cs ≡ update bytes_eq (get_by_text old) key (Some i) cs) → IsIndex paths old → IsIndex (paths ++ key ∷ []) new
@@ -111,7 +110,7 @@ stand_valid paths (p ∷ own) [] stand = absurd (cc)
 stand_valid paths (p ∷ own) (x ∷ these) stand =
     let first : slice_get paths p ≡ Some x = cc in
     let later : map (slice_get paths) own ≡ map (λ t. Some t) these = cc in
-    (found_within paths p x first, stand_valid paths own these later)
+    (slice_get_within paths p x first, stand_valid paths own these later)
 
 valid_more : (paths : List Text) (places : List ℕ) (p : ℕ) → AllValid paths places → p < length paths → AllValid paths (places ++ p ∷ [])
 valid_more paths [] p all h = (h, tt)
@@ -182,7 +181,7 @@ module _ (files : List Importer) (all : List (List ℕ)) (once : are_distinct (p
       let named = paths_at files place i found in (
         ap (imports_at files) (name_is (paths_of files) place i.path named)
             ∙ (imports_found files place i once found ∙ ap (λ ts. Some ts) (sym (names_are (paths_of files) own i.imports stand))),
-        found_within (paths_of files) place i.path named,
+        slice_get_within (paths_of files) place i.path named,
       )
 
   named_walk : (front visited listed : List ℕ) → Walks all front visited listed → AllValid (paths_of files) front → IsNamed front visited listed

@@ -1,23 +1,29 @@
 -- The order of a set's files is a function: their post-order, where they have one.
-use Rattle.std.proofs.Common.{◌≡◌, ℕ, ◌<◌, inl, inr, Bool, true, false, ◌&&◌, List, [], ◌∷◌, map, length, Option, Some, None, option_map, slice_get, refl, ap, ap₂, sym, subst, ◌∙◌, rules}
+use Rattle.std.proofs.Common.{◌≡◌, ℕ, ◌<◌, ◌⊎◌, inl, inr, Bool, true, false, ◌&&◌, List, [], ◌∷◌, map, length, Option, Some, None, option_map, slice_get, Result, Ok, Err, IfOk, IfErr, refl, ap, ap₂, sym, subst, ◌∙◌, Vec, Global, rules}
 use Rattle.std.proofs.lemmas.List.{length-map}
 use Rattle.std.proofs.lemmas.Option.{slice_get-map}
 use Rattle.std.specs.List.{AllByRecursion, cons_option, list_all}
 use Rattle.std.specs.Option.{option_and_then, unwrap_or}
 use Rattle.pg_schema.specs.rules.Pairs.{are_distinct}
+use Rattle.pg_schema.specs.standing.Places.{places_from}
 use Rattle.pg_schema.proofs.lemmas.rules.PairLemmas.{and_both, and_false_right}
+use Rattle.pg_dyn.specs.message.Kept.{Kept, message_of}
 use Rattle.pg_dyn.specs.message.Message.{Message}
-use Rattle.pg_set.specs.inner.reading.FilePlaces.{AreOrdered, name_at, HasNoOrder, IsPostOrder}
+use Rattle.pg_set.specs.declared.error.Unstated.{Unstated}
+use Rattle.pg_set.specs.declared.error.Unstated.TheVariants as errors
+use Rattle.pg_set.specs.inner.reading.FilePlaces.{ImportsAt, name_at, HasNoOrder, IsPostOrder}
+use Rattle.pg_set.specs.inner.reading.Walks.{AreWithin, Falls, Walks, lists_of}
 use Rattle.pg_set.specs.inner.reading.OutlinedRows.{files_at}
 use Rattle.pg_set.specs.stated.PostOrder.{Importer, importer_of, imports_at, imports_once, paths_of}
 use Rattle.pg_set.specs.stated.SetMessages.{text_at}
 use Rattle.pg_set.specs.stated.StatedNames.{each, only_if}
 use Rattle.pg_set.specs.stated.StatedOrder.{file_at, in_post_order, paths_in_post_order, visit}
-use Rattle.pg_set.proofs.lemmas.order.FilesInOrder.{places_within}
+use Rattle.pg_set.proofs.lemmas.lists.Zips.{seen_length}
 use Rattle.pg_set.proofs.lemmas.order.SetLaws.{paths_are}
 use Rattle.pg_set.proofs.lemmas.order.VisitLaws.{lists_visit, visit_lists}
 use Rattle.pg_set.proofs.lemmas.order.Visited.{Text, found_at, is_file}
-use Rattle.pg_set.proofs.lemmas.order.Ordering.{there}
+use Rattle.pg_set.proofs.lemmas.order.Ordering.{as_many, in_order, no_ranks, of_files, there, within_count}
+use Rattle.pg_set.proofs.lemmas.order.Walking.{lists_long}
 
 -- ---- paths
 
@@ -75,8 +81,58 @@ pub files_ordered : (skips : Bool) (files listed : List Message) → are_distinc
 files_ordered skips files listed once imports order are = search (rules, paths_ordered, each_file)
 
 -- the files at indices in post-order
-pub order_is : (skips : Bool) (files : List Message) (places : List ℕ) → AreOrdered (map (importer_of skips) files) places → in_post_order skips files ≡ Some (files_at files places)
-order_is skips files places ordered = search (rules, files_named, paths_are, places_within, files_ordered)
+order_is : (skips : Bool) (files : List Message) (places : List ℕ) → are_distinct (paths_of (map (importer_of skips) files)) ≡ true
+    → list_all imports_once (map (importer_of skips) files) ≡ true → IsPostOrder (map (importer_of skips) files) (map (name_at (paths_of (map (importer_of skips) files))) places)
+    → AllByRecursion (λ place. place < length files) places → in_post_order skips files ≡ Some (files_at files places)
+order_is skips files places once imports order within = search (rules, files_named, paths_are, files_ordered)
 
 pub no_order : (skips : Bool) (files : List Message) → HasNoOrder (map (importer_of skips) files) → in_post_order skips files ≡ None
 no_order skips files none = ap (option_and_then (each (file_at files))) (no_paths (map (importer_of skips) files) none)
+
+-- ---- of a walk over indices
+
+module _ (skips : Bool) (kept : List Kept) (is : List Importer) (same : is ≡ map (importer_of skips) (map message_of kept)) where
+  abbrev files : List Message
+  files = map message_of kept
+
+  pub none_ordered : HasNoOrder is → in_post_order skips files ≡ None
+  none_ordered none = no_order skips files (subst HasNoOrder same none)
+
+  module _ (imported items : List (Vec ℕ Global)) (lent : imported ≡ items) (once : are_distinct (paths_of is) ≡ true) (found : ImportsAt is (lists_of items)) where
+    abbrev all : List (List ℕ)
+    all = lists_of imported
+
+    at : ImportsAt is all
+    at = subst (λ vs. ImportsAt is (lists_of vs)) (sym lent) found
+
+    many : length imported ≡ length (paths_of is)
+    many = sym (lists_long imported) ∙ as_many (paths_of is) all is at
+
+    pub walk_within : AreWithin (length imported) all
+    walk_within = within_count is all once at (length imported) many
+
+    ordered : list_all imports_once is ≡ true → (places : List ℕ) → Walks all [] (places_from 0 (length imported)) places
+        → AllByRecursion (λ place. place < length kept) places × (in_post_order skips files ≡ Some (files_at files places))
+    ordered imports places walk = (subst Within (few ∙ seen_length kept) within, in_order_of (subst (λ js. IsPostOrder js (map (name_at (paths_of js)) places)) same (in_order is all once at (length imported) places many walk)))
+      where
+        Within : ℕ → Type 0
+        Within n = AllByRecursion (λ place. place < n) places
+
+        few : length is ≡ length files
+        few = ap length same ∙ length-map files (importer_of skips)
+
+        within : Within (length is)
+        within = of_files is all once at (length imported) places walk
+
+        in_order_of : IsPostOrder (map (importer_of skips) files) (map (name_at (paths_of (map (importer_of skips) files))) places) → in_post_order skips files ≡ Some (files_at files places)
+        in_order_of order =
+            order_is skips files places (subst (λ js. are_distinct (paths_of js) ≡ true) same once) (subst (λ js. list_all imports_once js ≡ true) same imports) order (subst Within few within)
+
+    -- what is answered, and what is refused
+    pub walked : list_all imports_once is ≡ true → (r : Result (Vec ℕ Global) Unstated) → IfOk r (λ order. Walks all [] (places_from 0 (length imported)) order.items)
+        → IfErr r (λ e. (e ≡ errors.Memory) ⊎ ((rank : ℕ → ℕ) → Falls rank all → ⊥))
+        → IfOk r (λ order. AllByRecursion (λ place. place < length kept) order.items) × IfOk r (λ order. in_post_order skips files ≡ Some (files_at files order.items))
+        × IfErr r (λ e. (e ≡ errors.Memory) ⊎ (in_post_order skips files ≡ None))
+    walked imports (Ok order) walk refused = let (within, is_so) = ordered imports order.items walk in (within, is_so, tt)
+    walked imports (Err e) walk (inl memory) = (tt, tt, inl memory)
+    walked imports (Err e) walk (inr round) = (tt, tt, inr (none_ordered (inr (inr (no_ranks is all once at round)))))

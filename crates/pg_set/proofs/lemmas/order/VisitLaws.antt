@@ -1,62 +1,15 @@
 -- Visits are a function: `visit` answers what is listed once all were visited, where it goes deep enough.
-use Rattle.std.proofs.Common.{◌≡◌, ℕ, zero, suc, ◌<◌, ◌≤◌, ◌⊎◌, inl, inr, Bool, true, false, cond, nat_lt, ◌||◌, List, [], ◌∷◌, ◌++◌, length, Option, Some, None, option_map, refl, ap, sym, subst, ◌∙◌, arith, rules}
-use Rattle.std.proofs.lemmas.Bool.{false≢true}
+use Rattle.std.proofs.Common.{◌≡◌, ℕ, zero, suc, ◌+◌, ◌<◌, ◌≤◌, ◌⊎◌, inl, inr, Bool, true, false, List, [], ◌∷◌, ◌++◌, length, Option, Some, None, option_map, refl, ap, sym, subst, ◌∙◌, arith, rules}
+use Rattle.std.proofs.lemmas.Map.Made.{length-le_from_is_member}
 use Rattle.std.proofs.lemmas.Option.{none-some, same_Some}
-use Rattle.std.specs.List.{AllByRecursion, list_any}
+use Rattle.std.specs.List.{AllByRecursion, IsDistinct, list_any}
 use Rattle.std.specs.Option.{option_and_then}
+use Rattle.std.specs.Prelude.{⊤}
 use Rattle.std.specs.Str.{bytes_eq}
 use Rattle.pg_schema.specs.standing.Visits.{Visits, all_visited, listed_last, passed_over}
 use Rattle.pg_set.specs.stated.StatedOrder.{visit, visit_each, visit_one}
 use Rattle.pg_set.proofs.lemmas.lists.Marks.{all_weaker}
-use Rattle.pg_set.proofs.lemmas.order.Visited.{Among, Text, all_behind, rank, same_bytes, visited_listed}
-use Rattle.pg_set.proofs.lemmas.lists.Tests.{below as is_below, not_below}
-
--- ---- how many are below a limit
-
--- so many have a rank below that
-abbrev pub below : (ranks : Text → ℕ) → (limit : ℕ) → List Text → ℕ
-below ranks limit [] = 0
-below ranks limit (z ∷ zs) = cond (nat_lt (ranks z) limit) (suc (below ranks limit zs)) (below ranks limit zs)
-
-module _ (ranks : Text → ℕ) where
-  below_most : (limit : ℕ) (zs : List Text) → below ranks limit zs ≤ length zs
-  below_most limit [] = omega arith
-  below_most limit (z ∷ zs) = search (rules, below_most limit zs)
-
-  below_more : (low high : ℕ) (zs : List Text) → low ≤ high → below ranks low zs ≤ below ranks high zs
-  below_more low high [] h = omega arith
-  below_more low high (z ∷ zs) h = search (rules, below_more low high zs h, is_below, not_below)
-
-  -- one among them that isn't below the one limit, and is below the other
-  below_less : (low high : ℕ) (zs : List Text) (x : Text) → Among zs x → low ≤ ranks x → ranks x < high → below ranks low zs < below ranks high zs
-  below_less low high [] x among h k = absurd (false≢true among)
-  below_less low high (z ∷ zs) x among h k =
-      of (bytes_eq x z) refl (nat_lt (ranks z) low) refl (nat_lt (ranks z) high) refl among (below_more low high zs (omega (arith, h, k))) (λ there. below_less low high zs x there h k)
-    where
-      same : bytes_eq x z ≡ true → ranks x ≡ ranks z
-      same e = ap ranks (same_bytes x z e)
-
-      of : (b : Bool) → bytes_eq x z ≡ b → (p : Bool) → nat_lt (ranks z) low ≡ p → (q : Bool) → nat_lt (ranks z) high ≡ q → (b || list_any (bytes_eq x) zs) ≡ true
-          → below ranks low zs ≤ below ranks high zs → (Among zs x → below ranks low zs < below ranks high zs)
-          → cond p (suc (below ranks low zs)) (below ranks low zs) < cond q (suc (below ranks high zs)) (below ranks high zs)
-      of true here true e q f there rest later = let a = is_below (ranks z) low e in let s = same here in absurd (omega (arith, a, s, h))
-      of true here false e true f there rest later = omega (arith, rest)
-      of true here false e false f there rest later = let a = not_below (ranks z) high f in let s = same here in absurd (omega (arith, a, s, k))
-      of false here true e true f there rest later = let less = later there in omega (arith, less)
-      of false here true e false f there rest later =
-          let a = is_below (ranks z) low e in let b = not_below (ranks z) high f in absurd (omega (arith, a, b, h, k))
-      of false here false e true f there rest later = let less = later there in omega (arith, less)
-      of false here false e false f there rest later = later there
-
-  below_within : (limit : ℕ) (zs : List Text) (x : Text) → Among zs x → limit ≤ ranks x → below ranks limit zs < length zs
-  below_within limit zs x among h =
-      let less = below_less limit (suc (ranks x)) zs x among h (omega arith) in
-      let most = below_most (suc (ranks x)) zs in
-      omega (arith, less, most)
-
--- how many of the names come before it in the list
-abbrev places_before : (listed names : List Text) → Text → ℕ
-places_before listed names x = below (rank listed) (rank listed x) names
+use Rattle.pg_set.proofs.lemmas.order.Visited.{Among, AreClosed, Text, all_behind, all_listed, rank, same_bytes, same_texts, visited_listed}
 
 module _ (leads : Text → Option (List Text)) where
   abbrev Lists : (front visited listed : List Text) → Type 0
@@ -95,57 +48,60 @@ module _ (leads : Text → Option (List Text)) where
   visit_lists zero front (x ∷ xs) listed is = absurd (none-some listed is)
   visit_lists (suc depth) front visited listed is = each_listed (visit depth leads) (visit_lists depth) front visited listed is
 
-  -- ---- what is listed is answered, where ranks fall along what each leads to
+  -- ---- what is listed is answered, where visits go as deep as there are names
 
-  module _ (Stands : Text → Type 0) (ranks : Text → ℕ)
-      (falls : (x : Text) → Stands x → (own : List Text) × (leads x ≡ Some own) × AllByRecursion (λ y. Stands y × (ranks y < ranks x)) own) where
-    abbrev AreLow : (limit : ℕ) → List Text → Type 0
-    AreLow limit visited = AllByRecursion (λ y. Stands y × (ranks y < limit)) visited
+  module _ (names listed : List Text) (named : (x : Text) (own : List Text) → leads x ≡ Some own → Among names x) (closed : AreClosed leads listed) where
+    abbrev IsBelow : List Text → Text → Type 0
+    IsBelow above y = Among listed y × AllByRecursion (λ u. rank listed y < rank listed u) above
 
-    none_visited : (front visited listed : List Text) → Lists front visited listed → AreLow 0 visited → visit 0 leads front visited ≡ Some listed
-    none_visited front visited listed (all_visited f) low = refl
-    none_visited front visited listed (passed_over f later l x found rest) low = let none = low.0.1 in absurd (omega (arith, none))
-    none_visited front visited listed (listed_last f own inside later l x missing is inner rest) low = let none = low.0.1 in absurd (omega (arith, none))
+    -- those whose visits are begun: each ranks below the ones that were begun before it
+    abbrev Rise : List Text → Type 0
+    Rise [] = ⊤
+    Rise (x ∷ above) = IsBelow above x × Rise above
 
-    each_answered : (depth : ℕ) → ((front own inside : List Text) → Lists front own inside → AreLow depth own → visit depth leads front own ≡ Some inside)
-        → (front visited listed : List Text) → Lists front visited listed → AreLow (suc depth) visited → visit_each (visit depth leads) leads front visited ≡ Some listed
-    each_answered depth good front visited listed (all_visited f) low = refl
-    each_answered depth good front visited listed (passed_over f later l x found rest) low =
-        ap (λ b. option_and_then (λ m. visit_each (visit depth leads) leads m later) (cond b (Some f) (option_map (λ m. m ++ x ∷ []) (option_and_then (visit depth leads f) (leads x))))) found
-        ∙ each_answered depth good f later l rest low.1
-    each_answered depth good front visited listed (listed_last f own inside later l x missing is inner rest) low =
-        ap (λ b. option_and_then (λ m. visit_each (visit depth leads) leads m later) (cond b (Some f) (option_map (λ m. m ++ x ∷ []) (option_and_then (visit depth leads f) (leads x))))) missing
-        ∙ (ap (λ o. option_and_then (λ m. visit_each (visit depth leads) leads m later) (option_map (λ m. m ++ x ∷ []) (option_and_then (visit depth leads f) o))) is
-        ∙ (ap (λ o. option_and_then (λ m. visit_each (visit depth leads) leads m later) (option_map (λ m. m ++ x ∷ []) o)) (good f own inside inner lower)
-        ∙ each_answered depth good (inside ++ x ∷ []) later l rest low.1))
+    rise_once : (above : List Text) → Rise above → IsDistinct bytes_eq above
+    unfolding IsDistinct
+    rise_once [] rise = tt
+    rise_once (x ∷ above) rise =
+        (all_weaker (λ u. rank listed x < rank listed u) (λ u. bytes_eq x u ≡ false) (other x) above rise.0.1, rise_once above rise.1)
       where
-        lower : AreLow depth own
-        lower =
-            let (there, leads_so, behind) = falls x low.0.0 in
-            let first = low.0.1 in
-            subst (AreLow depth) (same_Some there own (sym leads_so ∙ is))
-            (all_weaker (λ y. Stands y × (ranks y < ranks x)) (λ y. Stands y × (ranks y < depth)) (λ y h. let less = h.1 in (h.0, omega (arith, less, first))) there behind)
+        other : (x u : Text) → rank listed x < rank listed u → bytes_eq x u ≡ false
+        other x u less = of (bytes_eq x u) refl
+          where
+            of : (b : Bool) → bytes_eq x u ≡ b → b ≡ false
+            of true same = let e = ap (rank listed) (same_bytes x u same) in absurd (omega (arith, less, e))
+            of false other = refl
 
-    answered : (depth : ℕ) (front visited listed : List Text) → Lists front visited listed → AreLow depth visited → visit depth leads front visited ≡ Some listed
-    answered zero front visited listed lists low = none_visited front visited listed lists low
-    answered (suc depth) front visited listed lists low = each_answered depth (answered depth) front visited listed lists low
+    rise_named : (above : List Text) → Rise above → AllByRecursion (Among names) above
+    rise_named [] rise = tt
+    rise_named (x ∷ above) rise = let (own, leads_so, behind) = closed x rise.0.0 in (named x own leads_so, rise_named above rise.1)
+
+    -- so they are no more than the names
+    rise_few : (above : List Text) → Rise above → length above ≤ length names
+    rise_few above rise = length-le_from_is_member same_texts above names (rise_once above rise) (all_listed names above (rise_named above rise))
+
+    answered : (depth : ℕ) (above front visited made : List Text) → Lists front visited made → Rise above → length names ≤ depth + length above → AllByRecursion (IsBelow above) visited
+        → visit depth leads front visited ≡ Some made
+    answered zero above front visited made (all_visited f) rise many low = refl
+    answered (suc depth) above front visited made (all_visited f) rise many low = refl
+    answered zero above front visited made (passed_over f later l x found rest) rise many low = let few = rise_few (x ∷ above) (low.0, rise) in absurd (omega (arith, few, many))
+    answered zero above front visited made (listed_last f own inside later l x missing is inner rest) rise many low =
+        let few = rise_few (x ∷ above) (low.0, rise) in absurd (omega (arith, few, many))
+    answered (suc depth) above front visited made (passed_over f later l x found rest) rise many low = search (rules, found, answered (suc depth) above f later l rest rise many low.1)
+    answered (suc depth) above front visited made (listed_last f own inside later l x missing is inner rest) rise many low =
+        search (rules, missing, is, answered depth (x ∷ above) f own inside inner (low.0, rise) (omega (arith, many)) lower, answered (suc depth) above (inside ++ x ∷ []) later l rest rise many low.1)
+      where
+        later_below : (y : Text) → Among listed y × (rank listed y < rank listed x) → IsBelow (x ∷ above) y
+        later_below y (among, less) = (among, (less, all_weaker (λ u. rank listed x < rank listed u) (λ u. rank listed y < rank listed u) (λ u more. omega (arith, less, more)) above low.0.1))
+
+        lower : AllByRecursion (IsBelow (x ∷ above)) own
+        lower =
+            let (there, leads_so, behind) = closed x low.0.0 in
+            subst (AllByRecursion (IsBelow (x ∷ above))) (same_Some there own (sym leads_so ∙ is)) (all_weaker (λ y. Among listed y × (rank listed y < rank listed x)) (IsBelow (x ∷ above)) later_below there behind)
 
   -- where all that lead somewhere are among some names, it goes deep enough by as many as there are of these
   pub lists_visit : (names : List Text) → ((x : Text) (own : List Text) → leads x ≡ Some own → Among names x) → (visited listed : List Text) → Lists [] visited listed
       → visit (length names) leads [] visited ≡ Some listed
-  lists_visit names are_names visited listed lists =
-      answered (Among listed) (places_before listed names) falls (length names) [] visited listed lists
-      (all_weaker (Among listed) (λ y. Among listed y × (places_before listed names y < length names))
-      (λ y there. (there, below_within (rank listed) (rank listed y) names y (named y there) (omega arith))) visited (visited_listed leads [] visited listed lists))
-    where
-      named : (y : Text) → Among listed y → Among names y
-      named y there = let (own, leads_so, behind) = all_behind leads visited listed lists y there in are_names y own leads_so
-
-      falls : (x : Text) → Among listed x → (own : List Text) × (leads x ≡ Some own) × AllByRecursion (λ y. Among listed y × (places_before listed names y < places_before listed names x)) own
-      falls x there =
-          let (own, leads_so, behind) = all_behind leads visited listed lists x there in (
-            own,
-            leads_so,
-            all_weaker (λ y. Among listed y × (rank listed y < rank listed x)) (λ y. Among listed y × (places_before listed names y < places_before listed names x))
-                (λ y h. let less = h.1 in (h.0, below_less (rank listed) (rank listed y) (rank listed x) names y (named y h.0) (omega arith) less)) own behind,
-          )
+  lists_visit names named visited listed lists =
+      answered names listed named (all_behind leads visited listed lists) (length names) [] [] visited listed lists tt (omega arith)
+      (all_weaker (Among listed) (IsBelow names listed named (all_behind leads visited listed lists) []) (λ y there. (there, tt)) visited (visited_listed leads [] visited listed lists))

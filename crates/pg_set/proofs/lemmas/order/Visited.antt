@@ -3,14 +3,17 @@ use Rattle.std.proofs.Common.{◌≡◌, ℕ, zero, suc, ◌<◌, Bool, true, fa
 use Rattle.std.proofs.lemmas.Bool.{false≢true}
 use Rattle.std.proofs.lemmas.Option.{none-some, same_Some}
 use Rattle.std.proofs.lemmas.Slice.Eq.{bytes_eq-Decides}
+use Rattle.std.specs.Cmp.{IsEquivalence}
 use Rattle.std.specs.List.{AllByRecursion, list_all, list_any}
 use Rattle.std.specs.Str.{bytes_eq}
 use Rattle.pg_schema.specs.rules.Pairs.{are_distinct, differ}
-use Rattle.pg_schema.proofs.lemmas.rules.PairLemmas.{and_both, and_left, and_right, bytes_eq-sym}
+use Rattle.pg_schema.proofs.lemmas.rules.PairLemmas.{and_left, and_right, bytes_eq-sym}
 use Rattle.pg_schema.specs.standing.Visits.{Visits, all_visited, listed_last, passed_over}
+use Rattle.pg_dyn.proofs.Lists.{list_all_each}
+use Rattle.pg_dyn.proofs.lemmas.views.SelfSame.{bytes_eq_self}
 use Rattle.pg_set.specs.stated.PostOrder.{Importer, imports_at, paths_of}
 use Rattle.pg_set.specs.inner.reading.FilePlaces.{IsPostOrder}
-use Rattle.pg_set.proofs.lemmas.lists.Marks.{any_more, all_weaker}
+use Rattle.pg_set.proofs.lemmas.lists.Marks.{all_weaker, any_more}
 use Rattle.pg_set.proofs.lemmas.lists.Tests.{not_so, or_left, or_right}
 
 abbrev pub Text : Type 0
@@ -22,8 +25,8 @@ Among list x = list_any (bytes_eq x) list ≡ true
 pub same_bytes : (x y : Text) → bytes_eq x y ≡ true → x ≡ y
 same_bytes x y e = (bytes_eq-Decides x y).0 e
 
-pub own_bytes : (x : Text) → bytes_eq x x ≡ true
-own_bytes x = (bytes_eq-Decides x x).1 refl
+pub same_texts : IsEquivalence bytes_eq
+same_texts = record { refl = bytes_eq_self; symm = bytes_eq-sym; congr = λ x y z e. ap (λ w. bytes_eq w z) (same_bytes x y e) }
 
 or_rest : (a b : Bool) → a ≡ false → (a || b) ≡ true → b ≡ true
 or_rest true b e h = absurd (false≢true (sym e))
@@ -33,7 +36,7 @@ pub among_front : (list : List Text) (x y : Text) → Among list x → Among (li
 among_front list x y among = any_more (bytes_eq x) list y ∙ or_left (list_any (bytes_eq x) list) (bytes_eq x y) among
 
 pub among_last : (list : List Text) (x : Text) → Among (list ++ x ∷ []) x
-among_last list x = any_more (bytes_eq x) list x ∙ or_right (list_any (bytes_eq x) list) (bytes_eq x x) (own_bytes x)
+among_last list x = any_more (bytes_eq x) list x ∙ or_right (list_any (bytes_eq x) list) (bytes_eq x x) (bytes_eq_self x)
 
 -- ---- ranks
 
@@ -51,7 +54,7 @@ rank_front [] x y among = absurd (false≢true among)
 rank_front (z ∷ list) x y among = search (rules, rank_front list x y)
 
 rank_last : (list : List Text) (x : Text) → list_any (bytes_eq x) list ≡ false → rank (list ++ x ∷ []) x ≡ length list
-rank_last [] x missing = ap (λ b. cond b 0 1) (own_bytes x)
+rank_last [] x missing = ap (λ b. cond b 0 1) (bytes_eq_self x)
 rank_last (z ∷ list) x missing = search (rules, rank_last list x, false≢true)
 
 -- ---- all that is listed comes after what it leads to
@@ -128,7 +131,7 @@ module _ {A : Type 0} (path : A → Text) where
   -- what is at an index is found by its path, where paths occur once
   pub found_at : (xs : List A) (place : ℕ) (a : A) → are_distinct (map path xs) ≡ true → slice_get xs place ≡ Some a → find (λ b. bytes_eq (path b) (path a)) xs ≡ Some a
   found_at [] place a once is = absurd (none-some a is)
-  found_at (b ∷ xs) zero a once is = search (rules, same_Some, own_bytes)
+  found_at (b ∷ xs) zero a once is = search (rules, same_Some, bytes_eq_self)
   found_at (b ∷ xs) (suc place) a once is =
       ap (λ t. cond t (Some b) (find (λ c. bytes_eq (path c) (path a)) xs))
       (apart_at (path b) xs place a (and_left (list_all (differ (path b)) (map path xs)) (are_distinct (map path xs)) once) is)
@@ -147,13 +150,9 @@ imports_found files place i once is = ap (option_map (λ (j : Importer). j.impor
 pub is_file : (files : List Importer) (x : Text) (own : List Text) → imports_at files x ≡ Some own → Among (paths_of files) x
 is_file files x own is = search (rules, among_found, option_map, is_some, none-some)
 
-all_true : {A : Type 0} (test : A → Bool) (xs : List A) → AllByRecursion (λ x. test x ≡ true) xs → list_all test xs ≡ true
-all_true test [] all = refl
-all_true test (x ∷ xs) all = and_both (test x) (list_all test xs) all.0 (all_true test xs all.1)
-
 path_at : (files : List Importer) (place : ℕ) (i : Importer) → slice_get files place ≡ Some i → Among (paths_of files) i.path
 path_at [] place i is = absurd (none-some i is)
-path_at (j ∷ files) zero i is = or_left (bytes_eq i.path j.path) (list_any (bytes_eq i.path) (paths_of files)) (ap (λ (k : Importer). bytes_eq i.path k.path) (same_Some j i is) ∙ own_bytes i.path)
+path_at (j ∷ files) zero i is = or_left (bytes_eq i.path j.path) (list_any (bytes_eq i.path) (paths_of files)) (ap (λ (k : Importer). bytes_eq i.path k.path) (same_Some j i is) ∙ bytes_eq_self i.path)
 path_at (j ∷ files) (suc place) i is = or_right (bytes_eq i.path j.path) (list_any (bytes_eq i.path) (paths_of files)) (path_at files place i is)
 
 pub all_listed : (list visited : List Text) → AllByRecursion (Among list) visited → (x : Text) → Among visited x → Among list x
@@ -174,4 +173,4 @@ module _ (files : List Importer) (listed : List Text) (once : are_distinct (path
 
   -- what it imports is there
   pub there_at : (place : ℕ) (i : Importer) → slice_get files place ≡ Some i → list_all (λ y. list_any (bytes_eq y) (paths_of files)) i.imports ≡ true
-  there_at place i is = search (rules, all_true, all_weaker, all_behind, is_file, behind_at)
+  there_at place i is = search (rules, list_all_each, all_weaker, all_behind, is_file, behind_at)

@@ -1,8 +1,8 @@
 -- One step of a walk over the imports of files.
 use Rattle.std.proofs.Common.{◌≡◌, ℕ, zero, suc, ◌+◌, ◌-◌, ◌<◌, ◌≤◌, Bool, true, false, ◌||◌, inl, inr, nat_eq, List, [], ◌∷◌, ◌++◌, length, drop, set, replicate, Option, Some, None, slice_get, Vec, Global, get_or, refl, ap, ap₂, sym, subst, ◌∙◌, arith, rules}
 use Rattle.std.proofs.lemmas.Bool.{false≢true}
-use Rattle.std.proofs.lemmas.List.{drop_all, length-set}
-use Rattle.std.proofs.lemmas.Option.{none-some, same_Some}
+use Rattle.std.proofs.lemmas.List.{drop_all, length-map, length-set}
+use Rattle.std.proofs.lemmas.Option.{none-some, same_Some, slice_get_within}
 use Rattle.std.specs.List.{AllByRecursion, list_any}
 use Rattle.pg_schema.specs.standing.Places.{places_from}
 use Rattle.pg_set.specs.declared.reading.walk.Open.{Open}
@@ -11,8 +11,8 @@ use Rattle.pg_set.specs.declared.reading.walk.Seen.TheVariants as seen
 use Rattle.pg_set.specs.declared.reading.walk.Walk.{Walk}
 use Rattle.pg_schema.specs.standing.Visits.{all_visited, passed_over, listed_last}
 use Rattle.pg_set.specs.inner.reading.Walks.{AreWithin, Ends, Enters, Falls, IsOpen, IsStep, IsWalk, RanksFall, Walks, count_of, is_done, left, lists_of, pending, unopened}
-use Rattle.pg_set.proofs.lemmas.lists.Marks.{all_at, all_front, all_last, all_more, all_weaker, any_more, found_within, other_number, rest_at, set_elsewhere, set_here}
-use Rattle.pg_set.proofs.lemmas.lists.Tests.{or_all, or_none, same_number}
+use Rattle.pg_set.proofs.lemmas.lists.Marks.{all_at, all_front, all_last, all_more, all_weaker, any_more, rest_at, set_elsewhere, set_here}
+use Rattle.pg_set.proofs.lemmas.lists.Tests.{differs, or_all, or_none, same_number}
 
 -- ---- ranks
 
@@ -107,7 +107,7 @@ ends_opened all os o u v own done listed place same next v_is v_next there here 
 marked_done : (all : List (List ℕ)) (marks : List Seen) (done : List ℕ) (own : ℕ) → length marks ≡ length all → own < length all
     → ((place : ℕ) → place < length all → is_done (slice_get marks place) ≡ list_any (nat_eq place) done)
     → (place : ℕ) → place < length all → is_done (slice_get (set marks own seen.Done) place) ≡ list_any (nat_eq place) (done ++ own ∷ [])
-marked_done all marks done own long within listed place h = search (rules, same_number, set_here, any_more, or_all, set_elsewhere, other_number, or_none)
+marked_done all marks done own long within listed place h = search (rules, same_number, set_here, any_more, or_all, set_elsewhere, differs, or_none)
 
 done_is_not_open : Some seen.Done ≡ Some seen.Open → ⊥
 done_is_not_open e = cc
@@ -115,7 +115,7 @@ done_is_not_open e = cc
 -- the last file is done
 pub walk_ended : (all : List (List ℕ)) (marks : List Seen) (os : List Open) (o : Open) (done : List ℕ) → IsWalk all marks (os ++ o ∷ []) done
     → IsWalk all (set marks o.place seen.Done) os (done ++ o.place ∷ [])
-walk_ended all marks os o done walk = search (rules, all_last, found_within, length-set, marked_done, all_front, falls_front, same_number, done_is_not_open, set_here, or_none, any_more, set_elsewhere, other_number)
+walk_ended all marks os o done walk = search (rules, all_last, slice_get_within, length-set, marked_done, all_front, falls_front, same_number, done_is_not_open, set_here, or_none, any_more, set_elsewhere, differs)
 
 -- one import more of the last file was looked at
 pub walk_looked : (all : List (List ℕ)) (marks : List Seen) (os : List Open) (o u : Open) (own done : List ℕ) → u.place ≡ o.place → u.next ≡ suc o.next → slice_get all o.place ≡ Some own
@@ -141,19 +141,19 @@ walk_opened all marks os v done first unseen below walk = record {
 }
   where
     within : v.place < length marks
-    within = found_within marks v.place seen.Not unseen
+    within = slice_get_within marks v.place seen.Not unseen
 
     same_done : (place : ℕ) (b : Bool) → nat_eq place v.place ≡ b → is_done (slice_get (set marks v.place seen.Open) place) ≡ is_done (slice_get marks place)
     same_done place true same =
         let e : place ≡ v.place = same_number place v.place same in
         ap (λ p. is_done (slice_get (set marks v.place seen.Open) p)) e ∙ (ap is_done (set_here marks v.place seen.Open within) ∙ (sym (ap is_done unseen) ∙ sym (ap (λ p. is_done (slice_get marks p)) e)))
-    same_done place false other = ap is_done (set_elsewhere marks v.place place seen.Open (other_number place v.place other))
+    same_done place false other = ap is_done (set_elsewhere marks v.place place seen.Open (differs place v.place other))
 
     found : (place : ℕ) → slice_get (set marks v.place seen.Open) place ≡ Some seen.Open → (b : Bool) → nat_eq place v.place ≡ b
         → (list_any (λ (x : Open). nat_eq place x.place) os || nat_eq place v.place) ≡ true
     found place is true same = ap (λ b. list_any (λ (x : Open). nat_eq place x.place) os || b) same ∙ or_all (list_any (λ (x : Open). nat_eq place x.place) os)
     found place is false other =
-        ap (λ b. b || nat_eq place v.place) (walk.opened place (sym (set_elsewhere marks v.place place seen.Open (other_number place v.place other)) ∙ is))
+        ap (λ b. b || nat_eq place v.place) (walk.opened place (sym (set_elsewhere marks v.place place seen.Open (differs place v.place other)) ∙ is))
 
     got : (o : Option (List ℕ)) → slice_get all v.place ≡ o → IsOpen all v
     got None is = absurd (past all v.place is (subst (λ n. v.place < n) walk.marked within))
@@ -213,13 +213,12 @@ list_there (x ∷ imported) zero v h is = ap (λ (w : Vec ℕ Global). Some w.it
 list_there (x ∷ imported) (suc i) v h is = list_there imported i v (omega (arith, h)) is
 
 pub lists_long : (imported : List (Vec ℕ Global)) → length (lists_of imported) ≡ length imported
-lists_long [] = refl
-lists_long (x ∷ imported) = ap suc (lists_long imported)
+lists_long imported = length-map imported (λ (v : Vec ℕ Global). v.items)
 
 -- what the last file imports
 pub own_there : (imported : List (Vec ℕ Global)) (marks : List Seen) (os : List Open) (o : Open) (done : List ℕ) (v : Vec ℕ Global) (own : List ℕ) → IsWalk (lists_of imported) marks (os ++ o ∷ []) done
     → v ≡ get_or imported o.place v → own ≡ v.items → slice_get (lists_of imported) o.place ≡ Some own
-own_there imported marks os o done v own walk is same = search (rules, all_last, list_there, found_within)
+own_there imported marks os o done v own walk is same = search (rules, all_last, list_there, slice_get_within)
 
 pub looked_at : (all : List (List ℕ)) (marks : List Seen) (os : List Open) (o : Open) (done own : List ℕ) → IsWalk all marks (os ++ o ∷ []) done → slice_get all o.place ≡ Some own → o.next ≤ length own
 looked_at all marks os o done own walk there = search (rules, all_last, same_Some)
@@ -229,7 +228,7 @@ import_within all count i j own place within there here = all_at (λ p. p < coun
 
 not_marked : (all : List (List ℕ)) (marks : List Seen) (os : List Open) (done : List ℕ) (place : ℕ) (mark : Seen) → IsWalk all marks os done → slice_get marks place ≡ Some mark
     → is_done (Some mark) ≡ list_any (nat_eq place) done
-not_marked all marks os done place mark walk is = search (rules, found_within)
+not_marked all marks os done place mark walk is = search (rules, slice_get_within)
 
 -- the next import of the last file was entered
 pub stepped : (all : List (List ℕ)) (os : List Open) (o u : Open) (own : List ℕ) (place : ℕ) (old new : Walk) → u.place ≡ o.place → u.next ≡ o.next + 1 → slice_get all o.place ≡ Some own
@@ -237,7 +236,7 @@ pub stepped : (all : List (List ℕ)) (os : List Open) (o u : Open) (own : List 
     → IsStep all old.seen.items (os ++ o ∷ []) old.done.items new
 stepped all os o u own place old new same later there here pushed walk (inl passed) =
     let next : u.next ≡ suc o.next = omega (arith, later) in
-    let more : o.next < length own = found_within own o.next place here in
+    let more : o.next < length own = slice_get_within own o.next place here in
     let looked = walk_looked all old.seen.items os o u own old.done.items same next there more walk in
     let fewer = left_passed all old.seen.items os o u own same next there more in
     let kept : new.opened.items ≡ os ++ u ∷ [] = ap (λ (w : Walk). w.opened.items) passed.1 ∙ pushed in
@@ -251,7 +250,7 @@ stepped all os o u own place old new same later there here pushed walk (inl pass
     }
 stepped all os o u own place old new same later there here pushed walk (inr opened) =
     let next : u.next ≡ suc o.next = omega (arith, later) in
-    let more : o.next < length own = found_within own o.next place here in
+    let more : o.next < length own = slice_get_within own o.next place here in
     let looked = walk_looked all old.seen.items os o u own old.done.items same next there more walk in
     let fewer = left_passed all old.seen.items os o u own same next there more in
     let v : Open = record { place = place; next = 0 } in

@@ -6,13 +6,13 @@ use Rattle.std.proofs.lemmas.List.Folds.{list_all-map, list_any-from_Any}
 use Rattle.std.proofs.lemmas.Map.Made.{length-le_from_is_member}
 use Rattle.std.proofs.lemmas.Option.{none-some, same_Some, slice_get-map, slice_get_read}
 use Rattle.std.specs.Prelude.{IsSomeAnd}
-use Rattle.std.specs.Cmp.{IsEquivalence}
 use Rattle.std.specs.List.{AllByRecursion, Any, IsDistinct, list_all}
 use Rattle.std.specs.Str.{bytes_eq}
 use Rattle.pg_schema.specs.rules.Pairs.{are_distinct, differ}
 use Rattle.pg_schema.specs.rules.TextSets.{is_among}
-use Rattle.pg_schema.proofs.lemmas.rules.PairLemmas.{and_left, and_right, bytes_eq-sym}
+use Rattle.pg_schema.proofs.lemmas.rules.PairLemmas.{and_left, and_right}
 use Rattle.pg_dyn.specs.message.Message.{Message}
+use Rattle.pg_dyn.proofs.lemmas.views.SelfSame.{bytes_eq_self}
 use Rattle.pg_set.specs.refusals.BadReferences.{IsBadReference, IsTrail}
 use Rattle.pg_set.specs.refusals.BadReferences as causes
 use Rattle.pg_schema.specs.standing.Visits.{Visits}
@@ -26,7 +26,7 @@ use Rattle.pg_set.proofs.lemmas.lists.Marks.{all_weaker}
 use Rattle.pg_set.proofs.lemmas.order.SetLaws.{paths_are}
 use Rattle.pg_set.proofs.lemmas.order.StatedOrder.{no_order}
 use Rattle.pg_set.proofs.lemmas.order.VisitLaws.{visit_lists}
-use Rattle.pg_set.proofs.lemmas.order.Visited.{Among, AreClosed, Text, all_behind, all_listed, among_found, differs, is_file, own_bytes, rank, same_bytes, there_at, visited_listed}
+use Rattle.pg_set.proofs.lemmas.order.Visited.{Among, AreClosed, Text, all_behind, all_listed, among_found, differs, is_file, rank, same_bytes, same_texts, there_at, visited_listed}
 use Rattle.pg_set.proofs.lemmas.refusals.Steps.{any_false, any_here, any_there, any_weaker, by_test, each_none, false_any, map_none, of_and, of_cond, of_only, of_then}
 
 -- ---- where visits come to nothing
@@ -54,7 +54,7 @@ module _ (leads : Text → Option (List Text)) where
   one_more depth x own is (k, y, h, e, stops) = of stops
     where
       led : IsSomeAnd (leads x) (λ imports. is_among imports y ≡ true)
-      led = subst (λ o. IsSomeAnd o (λ imports. is_among imports y ≡ true)) (sym is) (list_any-from_Any (bytes_eq y) own (k, y, h, e, own_bytes y))
+      led = subst (λ o. IsSomeAnd o (λ imports. is_among imports y ≡ true)) (sym is) (list_any-from_Any (bytes_eq y) own (k, y, h, e, bytes_eq_self y))
 
       of : Stops depth y → Stops (suc depth) x
       of (inl none) = inr (inl (x, own, is, (k, y, h, e, none)))
@@ -104,9 +104,6 @@ module _ (leads : Text → Option (List Text)) where
       (λ twice. let front = trail_to x (y ∷ ys) x trail (differ_none x (y ∷ ys) twice) in (x, front.0, front.1)) (λ apart rest. trail_round y ys trail.1 rest)
 
 -- ---- strings that occur once are no more than those that they are among
-
-same_texts : IsEquivalence bytes_eq
-same_texts = record { refl = own_bytes; symm = bytes_eq-sym; congr = λ x y z e. ap (λ w. bytes_eq w z) (same_bytes x y e) }
 
 apart : (x : Text) (xs : List Text) → list_all (differ x) xs ≡ true → AllByRecursion (λ y. bytes_eq x y ≡ false) xs
 apart x [] h = tt
@@ -210,7 +207,7 @@ module _ (skips : Bool) (files : List Message) where
   bad_visit h = of (visit_stops leads_on (length importers) [] (paths_of importers) h)
     where
       of : Any (Stops leads_on (length importers)) (paths_of importers) → IsBadReference skips files
-      of (k, x, h, e, inl none) = absurd (false≢true (sym (leads_nowhere x none) ∙ list_any-from_Any (bytes_eq x) (paths_of importers) (k, x, h, e, own_bytes x)))
+      of (k, x, h, e, inl none) = absurd (false≢true (sym (leads_nowhere x none) ∙ list_any-from_Any (bytes_eq x) (paths_of importers) (k, x, h, e, bytes_eq_self x)))
       of (k, x, h, e, inr (inl misses)) = missing misses
       of (k, x, h, e, inr (inr walk)) = of_walk x walk
 
@@ -227,7 +224,7 @@ module _ (skips : Bool) (files : List Message) where
   all_there : (paths : List Text) → paths_in_post_order importers ≡ Some paths → Any (λ x. file_at files x ≡ None) paths → IsBadReference skips files
   all_there paths is (k, x, h, e, none) =
       let listed : Visits bytes_eq leads_on [] (paths_of importers) paths = visit_lists leads_on (length importers) [] (paths_of importers) paths (kept once is) in
-      let (own, leads, behind) = all_behind leads_on (paths_of importers) paths listed x (list_any-from_Any (bytes_eq x) paths (k, x, h, e, own_bytes x)) in
+      let (own, leads, behind) = all_behind leads_on (paths_of importers) paths listed x (list_any-from_Any (bytes_eq x) paths (k, x, h, e, bytes_eq_self x)) in
       absurd (false≢true (sym (not_there x none) ∙ there x (is_file importers x own leads)))
     where
       kept : (b : Bool) → only_if b visited ≡ Some paths → visited ≡ Some paths

@@ -5,7 +5,6 @@ use Rattle.pg_set.specs.declared.error.Unstated.TheVariants as unstated
 use Rattle.pg_set.specs.inner.reading.OutlinedRows.{files_at}
 use Rattle.pg_set.specs.stated.Stated.{declared_by}
 use Rattle.pg_set.specs.stated.Views.{parts_view}
-use Rattle.pg_set.proofs.lemmas.order.FilesInOrder.{lent_within}
 use Rattle.pg_set.proofs.lemmas.order.OrderSteps.{handed_on}
 use Rattle.pg_set.proofs.lemmas.reading.ReadLaws.{none_declared, outline_declares}
 use Rattle.pg_set.proofs.reading.parts.Goals as goal
@@ -13,12 +12,10 @@ use Rattle.pg_set.proofs.reading.parts.Goals as goal
 pub returns-in_err-outline-clause-none : goal.returns-in_err-outline-clause-none
 returns-in_err-outline-clause-none c =
     let skips = c.args.skips in
-    let files = c.args.files.now in
-    let order = c.args.order.now in
-    let found = files_at (map message_of files) order in
+    let found = files_at (map message_of c.args.files.now) c.args.order.now in
     let (y, is, same) = err_from_is_err_and c.from_residual.result c.from_residual.ensures.1 in
     handed_on c.from_residual.result (λ e. (e ≡ unstated.Memory) ⊎ (declared_by skips found ≡ None)) c.in_err-outline.field-0.0 y is same
-    (none_declared skips found c.in_err-outline.field-0.0 (c.in_err-outline.ensures.none (lent_within skips files order c.requires)))
+    (none_declared skips found c.in_err-outline.field-0.0 (c.in_err-outline.ensures.none c.requires))
 
 pub returns : goal.returns
 returns c =

@@ -1,7 +1,7 @@
 -- Files by their indices.
-use Rattle.std.specs.Prelude.{ℕ, List, [], ◌≡◌, false, ◌⊎◌, map, ◌↔◌, Some, slice_get, String, ◌<◌, true, length}
+use Rattle.std.specs.Prelude.{ℕ, List, [], ◌≡◌, false, ◌⊎◌, map, ◌↔◌, Some, slice_get, String}
 use Rattle.std.specs.Str.{bytes_eq}
-use Rattle.std.specs.List.{list_all, AllByRecursion}
+use Rattle.std.specs.List.{list_all}
 use Rattle.std.specs.BTreeMap.{BTreeMap, get_by_text}
 use Rattle.std.specs.Option.{unwrap_or}
 use Rattle.pg_schema.specs.rules.Pairs.{are_distinct}
@@ -43,11 +43,3 @@ ImportsAt files all = map (map (slice_get (paths_of files))) all ≡ map (λ (i 
 -- the path at an index
 abbrev pub name_at : List (List ℕ) → ℕ → List ℕ
 name_at paths place = unwrap_or (slice_get paths place) []
-
--- These are the indices of the files in post-order of imports. Paths occur once, among the files and among the imports
--- of each.
-pub record AreOrdered (files : List Importer) (places : List ℕ) : Type 0 where
-  pub once : are_distinct (paths_of files) ≡ true
-  pub imports : list_all imports_once files ≡ true
-  pub order : IsPostOrder files (map (name_at (paths_of files)) places)
-  pub within : AllByRecursion (λ place. place < length files) places
