@@ -1,3 +1,4 @@
+pub mod Words
 pub mod Examples
 pub mod Pieces
 pub mod StatedExamples

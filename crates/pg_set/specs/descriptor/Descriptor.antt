@@ -2,6 +2,7 @@
 -- of protobuf, `FileDescriptorSet` and below). Singular fields have explicit presence, repeated numbers are unpacked,
 -- both as in that file. That other fields and options are left out is this profile's choice.
 use Rattle.std.specs.Prelude.{ℕ, false, List, [], ◌∷◌, None}
+use Rattle.pg_schema.specs.declared.parts.field.EnumId.{EnumId}
 use Rattle.pg_schema.specs.declared.parts.field.TypeId.{TypeId}
 use Rattle.pg_schema.specs.declared.parts.field.Element.{Element}
 use Rattle.pg_schema.specs.declared.parts.field.Element.TheVariants as elements
@@ -15,11 +16,14 @@ use Rattle.pg_set.specs.declared.descriptor.proto.TheConstants as proto
 abbrev pub type_id : ℕ → TypeId
 type_id place = record { index = place }
 
+abbrev pub enum_id : ℕ → EnumId
+enum_id place = record { index = place }
+
 abbrev pub file_set : TypeId
 file_set = type_id 0
 
 abbrev pub enumeration : ℕ → Element
-enumeration place = elements.Enum (record { index = place })
+enumeration place = elements.Enum (enum_id place)
 
 abbrev pub label_enum : Element
 label_enum = enumeration 0

@@ -13,7 +13,7 @@ use Rattle.pg_schema.specs.rules.Fields.{is_message}
 use Rattle.pg_schema.specs.JsonName.{default_json_name}
 use Rattle.pg_schema.specs.Shape.{is_packable, is_singular}
 use Rattle.pg_set.specs.declared.descriptor.proto.TheConstants as proto
-use Rattle.pg_set.specs.descriptor.Descriptor.{flag, label_enum, message, mode_enum, number, text, type_enum, type_id}
+use Rattle.pg_set.specs.descriptor.Descriptor.{enum_id, flag, label_enum, message, mode_enum, number, text, type_enum, type_id}
 use Rattle.pg_set.specs.stated.Views.{EnumView, FieldView, FileView, PartsView, TypeView, ValueView}
 
 -- ---- what a row says
@@ -70,9 +70,6 @@ enum_of name values = record {
   reserved_names = [];
   options = record { allow_alias = None; deprecated = None };
 }
-
-abbrev pub enum_id : ℕ → EnumId
-enum_id place = record { index = place }
 
 -- ---- the message types
 

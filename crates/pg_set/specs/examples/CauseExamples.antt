@@ -1,21 +1,10 @@
 -- Small sets with a bad reference, each with its cause.
-use Rattle.std.specs.Prelude.{◌≡◌, ℕ, pos, true, false, List, [], ◌∷◌, codes, None, is_some}
-use Rattle.pg_dyn.specs.message.Message.{Bytes, Int, Message, ends, holds, nests}
+use Rattle.std.specs.Prelude.{◌≡◌, ℕ, true, false, List, [], ◌∷◌, codes, is_some}
+use Rattle.pg_dyn.specs.message.Message.{Message}
 use Rattle.pg_set.specs.refusals.BadReferences.{HasBadType, IsBadReference, means_in}
 use Rattle.pg_set.specs.declared.descriptor.proto.TheConstants as proto
+use Rattle.pg_set.specs.examples.Words.{child, count, nothing, text}
 use Rattle.pg_set.specs.stated.Stated.{stated_of}
-
-abbrev text : ℕ → List ℕ → Message → Message
-text number bytes later = holds number None (Bytes bytes) later
-
-abbrev count : ℕ → ℕ → Message → Message
-count number n later = holds number None (Int (pos n)) later
-
-abbrev child : ℕ → Message → Message → Message
-child number m later = nests number None m later
-
-abbrev nothing : Message
-nothing = ends []
 
 -- a file of that path, which imports that other one
 abbrev pub importing : (path other : List ℕ) → Message

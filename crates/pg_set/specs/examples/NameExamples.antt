@@ -1,22 +1,14 @@
 -- What names of small files mean, and which files' declarations may be in one table: names that occur twice are asked
 -- scope by scope.
 use Rattle.std.specs.Prelude.{◌≡◌, ℕ, true, false, List, [], ◌∷◌, ◌++◌, codes, flat_map, Some, None, is_some}
-use Rattle.pg_dyn.specs.message.Message.{Bytes, Message, ends, holds, nests}
+use Rattle.pg_dyn.specs.message.Message.{Message}
 use Rattle.pg_set.specs.stated.SetNames.{package_parts, package_scope}
 use Rattle.pg_set.specs.stated.Outlines.{file_enums, file_types}
 use Rattle.pg_set.specs.declared.descriptor.proto.TheConstants as proto
+use Rattle.pg_set.specs.examples.Words.{child, nothing, text}
 use Rattle.pg_set.specs.stated.Stated.{stated_of}
 use Rattle.pg_set.specs.stated.StatedNames.{NameLookup}
 use Rattle.pg_set.specs.stated.StatedTable.{enum_named, may_declare, meaning, names_of, type_named}
-
-abbrev text : ℕ → List ℕ → Message → Message
-text number bytes later = holds number None (Bytes bytes) later
-
-abbrev child : ℕ → Message → Message → Message
-child number m later = nests number None m later
-
-abbrev nothing : Message
-nothing = ends []
 
 -- `package a.b; message M { message N {} enum E {} }`
 abbrev two_types : Message

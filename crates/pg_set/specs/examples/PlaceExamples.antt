@@ -1,20 +1,13 @@
 -- Indices in order of declaration, by small examples.
-use Rattle.std.specs.Prelude.{◌≡◌, ℕ, [], ◌∷◌, flat_map}
-use Rattle.pg_schema.specs.declared.parts.field.EnumId.{EnumId}
+use Rattle.std.specs.Prelude.{◌≡◌, [], ◌∷◌, flat_map}
 use Rattle.pg_schema.specs.declared.parts.field.Field.{Field}
-use Rattle.pg_schema.specs.declared.parts.field.TypeId.{TypeId}
 use Rattle.pg_schema.specs.declared.parts.file.File.{File}
 use Rattle.pg_schema.specs.declared.parts.message_type.MessageType.{MessageType}
 use Rattle.pg_schema.specs.declared.parts.Parts.{Parts}
 use Rattle.pg_schema.specs.standing.InOrder.{StandInOrder, enums_below, file_enums, types_below}
+use Rattle.pg_set.specs.descriptor.Descriptor.{enum_id, type_id}
 use Rattle.pg_set.specs.examples.Examples.{AreParts, IsMessage}
 use Rattle.pg_set.specs.round_trip.Readable.{IsReadAgain}
-
-abbrev pub type_id : ℕ → TypeId
-type_id place = record { index = place }
-
-abbrev pub enum_id : ℕ → EnumId
-enum_id place = record { index = place }
 
 -- a message type with another inside it, and one after them
 pub record AreNested (outer inner last : MessageType) : Type 0 where

@@ -1,28 +1,15 @@
 -- What small sets state.
-use Rattle.std.specs.Prelude.{◌≡◌, ℕ, pos, List, [], ◌∷◌, map, codes, true, false, Option, Some, None, option_map}
+use Rattle.std.specs.Prelude.{◌≡◌, ℕ, List, [], ◌∷◌, map, codes, true, false, Option, Some, None, option_map}
 use Rattle.pg_schema.specs.declared.parts.field.Element.{Element}
 use Rattle.pg_schema.specs.declared.parts.field.Element.TheVariants as elements
 use Rattle.pg_schema.specs.declared.parts.field.Presence.TheVariants as presences
 use Rattle.pg_schema.specs.declared.parts.field.Scalar.TheVariants as scalars
 use Rattle.pg_schema.specs.declared.parts.field.TypeId.{TypeId}
-use Rattle.pg_dyn.specs.message.Message.{Bytes, Int, Message, ends, holds, nests}
+use Rattle.pg_dyn.specs.message.Message.{Message}
 use Rattle.pg_set.specs.declared.descriptor.proto.TheConstants as proto
+use Rattle.pg_set.specs.examples.Words.{child, count, nothing, text}
 use Rattle.pg_set.specs.stated.Stated.{stated}
 use Rattle.pg_set.specs.stated.Views.{EnumView, FieldView, FileView, MethodView, PartsView, ServiceView, TypeView}
-
--- ---- messages, part by part
-
-abbrev text : ℕ → List ℕ → Message → Message
-text number bytes later = holds number None (Bytes bytes) later
-
-abbrev count : ℕ → ℕ → Message → Message
-count number n later = holds number None (Int (pos n)) later
-
-abbrev child : ℕ → Message → Message → Message
-child number m later = nests number None m later
-
-abbrev nothing : Message
-nothing = ends []
 
 -- a field of that name, number, label and type, with what comes after
 abbrev field : (name : List ℕ) → (number label type : ℕ) → Message → Message

@@ -9,11 +9,11 @@ use Rattle.pg_schema.specs.declared.parts.options.OptionValue.{OptionValue}
 use Rattle.pg_schema.specs.declared.parts.options.OptionValue.TheVariants as values
 use Rattle.pg_schema.specs.declared.parts.service.ServiceId.{ServiceId}
 use Rattle.pg_dyn.specs.message.Message.{Bytes, F32, F64, Int, Item, Message, Msg, Plain}
+use Rattle.pg_set.specs.descriptor.Descriptor.{enum_id, type_id}
 use Rattle.pg_set.specs.stated.Numbering.{PlacedFile}
 use Rattle.pg_set.specs.declared.descriptor.proto.TheConstants as proto
 use Rattle.pg_set.specs.stated.SetMessages.{item_at, numbers_at, options_at, text_at, texts_at}
 use Rattle.pg_set.specs.stated.StatedNames.{only_if}
-use Rattle.pg_set.specs.stated.StatedTypes.{enum_id, type_id}
 use Rattle.pg_set.specs.stated.FileMessages.{is_place, kept_imports, option_places}
 use Rattle.pg_set.specs.stated.Views as views
 use Rattle.pg_set.specs.stated.Views.{FileView, ImportView, OptionView, ValueOf, value_of}

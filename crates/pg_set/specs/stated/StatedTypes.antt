@@ -1,10 +1,9 @@
 -- The message types that a set states, as a function of its messages (descriptor.proto, `DescriptorProto`).
 use Rattle.std.specs.Prelude.{ℕ, ◌-◌, nat_lt, List, [], ◌∷◌, filter, length, map, Option, Some, None, option_map, if◌then◌else◌}
 use Rattle.std.specs.Str.{bytes_eq}
-use Rattle.pg_schema.specs.declared.parts.field.EnumId.{EnumId}
-use Rattle.pg_schema.specs.declared.parts.field.TypeId.{TypeId}
 use Rattle.pg_schema.specs.declared.parts.message_type.ReservedFields.{ReservedFields}
 use Rattle.pg_dyn.specs.message.Message.{Message}
+use Rattle.pg_set.specs.descriptor.Descriptor.{enum_id, type_id}
 use Rattle.pg_set.specs.stated.Numbering.{PlacedType}
 use Rattle.pg_set.specs.stated.Outlines.{Row}
 use Rattle.pg_set.specs.declared.descriptor.proto.TheConstants as proto
@@ -62,12 +61,6 @@ oneof_names m = map (text_at proto.ONEOF_NAME) (real_oneofs (synthetic_places (c
 -- the end of a range is the first number after it
 abbrev pub field_range : Message → ReservedFields
 field_range m = record { first = natural (number_at proto.RANGE_START m); last = natural (number_at proto.RANGE_END m) - 1 }
-
-abbrev pub type_id : ℕ → TypeId
-type_id place = record { index = place }
-
-abbrev pub enum_id : ℕ → EnumId
-enum_id place = record { index = place }
 
 abbrev pub type_of : PlacedType → List FieldView → TypeView
 type_of p declared = record {

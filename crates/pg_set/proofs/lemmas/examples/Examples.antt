@@ -1,22 +1,14 @@
 -- The worked sets, by computation: first the message, then its bytes.
-use Rattle.std.specs.Prelude.{◌≡◌, pos, ℕ, List, [], codes, None}
+use Rattle.std.specs.Prelude.{◌≡◌, [], codes}
 use Rattle.std.proofs.Common.{refl, lit≤}
 use Rattle.pg_wire.specs.Varint.{varint}
 use Rattle.pg_wire.specs.Records.{tag, written}
 use Rattle.pg_dyn.specs.word.Coding.{word_bytes}
 use Rattle.pg_dyn.specs.encoding.Encoding.{enc}
-use Rattle.pg_dyn.specs.message.Message.{Message, Int, Bytes, ends, holds, nests}
+use Rattle.pg_dyn.specs.message.Message.{Message, ends}
 use Rattle.pg_set.specs.descriptor.Descriptor.{descriptor_shape, file_set}
+use Rattle.pg_set.specs.examples.Words.{child, count, text}
 use Rattle.pg_set.specs.examples.Examples as examples
-
-abbrev text : ℕ → List ℕ → Message → Message
-text number bytes later = holds number None (Bytes bytes) later
-
-abbrev count : ℕ → ℕ → Message → Message
-count number n later = holds number None (Int (pos n)) later
-
-abbrev child : ℕ → Message → Message → Message
-child number m later = nests number None m later
 
 -- a set of one file with this message type
 abbrev set_of : Message → Message

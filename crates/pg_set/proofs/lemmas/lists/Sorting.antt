@@ -1,6 +1,7 @@
 -- A list in order, whose items of one number are as in another, is that other, sorted.
 use Rattle.std.proofs.Common.{◌≡◌, ℕ, ◌<◌, ◌≤◌, Bool, true, false, cond, nat_eq, nat_lt, List, [], ◌∷◌, filter, length, refl, ap, sym, ◌∙◌, arith, rules}
 use Rattle.std.proofs.lemmas.Bool.{eqb-true}
+use Rattle.pg_dyn.specs.reading.Optional.{first_or}
 use Rattle.pg_set.specs.stated.StatedTypes.{by_key, put_in}
 use Rattle.pg_set.proofs.lemmas.lists.SameSorted.{AtLeast, InOrder}
 use Rattle.pg_set.proofs.lemmas.lists.Tests.{below, itself, not_below, not_lower}
@@ -26,10 +27,6 @@ module _ {A : Type 0} (key : A → ℕ) where
   filled x xs is = let e = ap length (sym (first_in x xs) ∙ is) in absurd (omega (arith, e))
 
   -- lists in order with the same items of each number are the same
-  abbrev head_or : A → List A → A
-  head_or d [] = d
-  head_or d (x ∷ xs) = x
-
   abbrev tail_of : List A → List A
   tail_of [] = []
   tail_of (x ∷ xs) = xs
@@ -47,7 +44,7 @@ module _ {A : Type 0} (key : A → ℕ) where
           let one = not_below (key x) (key y) is in
           let other = not_below (key y) (key x) are in
           let level : key x ≡ key y = omega (arith, one, other) in
-          ap (head_or x) (sym (first_in x xs) ∙ (same (key x) ∙ (ap (λ n. filter (of_key key n) (y ∷ ys)) level ∙ first_in y ys)))
+          ap (first_or x) (sym (first_in x xs) ∙ (same (key x) ∙ (ap (λ n. filter (of_key key n) (y ∷ ys)) level ∙ first_in y ys)))
 
   pub one_order : (xs ys : List A) → InOrder key xs → InOrder key ys → ((n : ℕ) → filter (of_key key n) xs ≡ filter (of_key key n) ys) → xs ≡ ys
   one_order [] [] up down same = refl

@@ -7,8 +7,8 @@ use Rattle.std.specs.Option.{option_and_then}
 use Rattle.std.specs.Prelude.{⊤}
 use Rattle.std.specs.Str.{bytes_eq}
 use Rattle.pg_schema.specs.standing.Visits.{Visits, all_visited, listed_last, passed_over}
+use Rattle.pg_dyn.proofs.Lists.{each_weaker}
 use Rattle.pg_set.specs.stated.StatedOrder.{visit, visit_each, visit_one}
-use Rattle.pg_set.proofs.lemmas.lists.Marks.{all_weaker}
 use Rattle.pg_set.proofs.lemmas.order.Visited.{Among, AreClosed, Text, all_behind, all_listed, rank, same_bytes, same_texts, visited_listed}
 
 module _ (leads : Text → Option (List Text)) where
@@ -63,7 +63,7 @@ module _ (leads : Text → Option (List Text)) where
     unfolding IsDistinct
     rise_once [] rise = tt
     rise_once (x ∷ above) rise =
-        (all_weaker (λ u. rank listed x < rank listed u) (λ u. bytes_eq x u ≡ false) (other x) above rise.0.1, rise_once above rise.1)
+        (each_weaker (λ u. rank listed x < rank listed u) (λ u. bytes_eq x u ≡ false) (other x) above rise.0.1, rise_once above rise.1)
       where
         other : (x u : Text) → rank listed x < rank listed u → bytes_eq x u ≡ false
         other x u less = of (bytes_eq x u) refl
@@ -92,16 +92,16 @@ module _ (leads : Text → Option (List Text)) where
         search (rules, missing, is, answered depth (x ∷ above) f own inside inner (low.0, rise) (omega (arith, many)) lower, answered (suc depth) above (inside ++ x ∷ []) later l rest rise many low.1)
       where
         later_below : (y : Text) → Among listed y × (rank listed y < rank listed x) → IsBelow (x ∷ above) y
-        later_below y (among, less) = (among, (less, all_weaker (λ u. rank listed x < rank listed u) (λ u. rank listed y < rank listed u) (λ u more. omega (arith, less, more)) above low.0.1))
+        later_below y (among, less) = (among, (less, each_weaker (λ u. rank listed x < rank listed u) (λ u. rank listed y < rank listed u) (λ u more. omega (arith, less, more)) above low.0.1))
 
         lower : AllByRecursion (IsBelow (x ∷ above)) own
         lower =
             let (there, leads_so, behind) = closed x low.0.0 in
-            subst (AllByRecursion (IsBelow (x ∷ above))) (same_Some there own (sym leads_so ∙ is)) (all_weaker (λ y. Among listed y × (rank listed y < rank listed x)) (IsBelow (x ∷ above)) later_below there behind)
+            subst (AllByRecursion (IsBelow (x ∷ above))) (same_Some there own (sym leads_so ∙ is)) (each_weaker (λ y. Among listed y × (rank listed y < rank listed x)) (IsBelow (x ∷ above)) later_below there behind)
 
   -- where all that lead somewhere are among some names, it goes deep enough by as many as there are of these
   pub lists_visit : (names : List Text) → ((x : Text) (own : List Text) → leads x ≡ Some own → Among names x) → (visited listed : List Text) → Lists [] visited listed
       → visit (length names) leads [] visited ≡ Some listed
   lists_visit names named visited listed lists =
       answered names listed named (all_behind leads visited listed lists) (length names) [] [] visited listed lists tt (omega arith)
-      (all_weaker (Among listed) (IsBelow names listed named (all_behind leads visited listed lists) []) (λ y there. (there, tt)) visited (visited_listed leads [] visited listed lists))
+      (each_weaker (Among listed) (IsBelow names listed named (all_behind leads visited listed lists) []) (λ y there. (there, tt)) visited (visited_listed leads [] visited listed lists))

@@ -9,11 +9,11 @@ use Rattle.std.specs.Str.{bytes_eq}
 use Rattle.pg_schema.specs.rules.Pairs.{are_distinct, differ}
 use Rattle.pg_schema.proofs.lemmas.rules.PairLemmas.{and_left, and_right, bytes_eq-sym}
 use Rattle.pg_schema.specs.standing.Visits.{Visits, all_visited, listed_last, passed_over}
-use Rattle.pg_dyn.proofs.Lists.{list_all_each}
+use Rattle.pg_dyn.proofs.Lists.{each_weaker, list_all_each}
 use Rattle.pg_dyn.proofs.lemmas.views.SelfSame.{bytes_eq_self}
 use Rattle.pg_set.specs.stated.PostOrder.{Importer, imports_at, paths_of}
 use Rattle.pg_set.specs.inner.reading.FilePlaces.{IsPostOrder}
-use Rattle.pg_set.proofs.lemmas.lists.Marks.{all_weaker, any_more}
+use Rattle.pg_set.proofs.lemmas.lists.Marks.{any_more}
 use Rattle.pg_set.proofs.lemmas.lists.Tests.{not_so, or_left, or_right}
 
 abbrev pub Text : Type 0
@@ -96,7 +96,7 @@ module _ (leads : Text → Option (List Text)) where
           let same = rank_front list z x there in (
             old.0,
             old.1,
-            all_weaker (λ y. Among list y × (rank list y < rank list z)) (λ y. Among (list ++ x ∷ []) y × (rank (list ++ x ∷ []) y < rank (list ++ x ∷ []) z))
+            each_weaker (λ y. Among list y × (rank list y < rank list z)) (λ y. Among (list ++ x ∷ []) y × (rank (list ++ x ∷ []) y < rank (list ++ x ∷ []) z))
                 (λ y h. let before = h.1 in let alike = rank_front list y x h.0 in (among_front list y x h.0, omega (arith, before, alike, same))) old.0 old.2,
           )
       of false missing =
@@ -104,7 +104,7 @@ module _ (leads : Text → Option (List Text)) where
           let here : rank (list ++ x ∷ []) z ≡ length list = ap (rank (list ++ x ∷ [])) e ∙ rank_last list x (subst (λ w. list_any (bytes_eq w) list ≡ false) e missing) in (
             own,
             ap leads e ∙ is,
-            all_weaker (Among list) (λ y. Among (list ++ x ∷ []) y × (rank (list ++ x ∷ []) y < rank (list ++ x ∷ []) z))
+            each_weaker (Among list) (λ y. Among (list ++ x ∷ []) y × (rank (list ++ x ∷ []) y < rank (list ++ x ∷ []) z))
                 (λ y there. let below = low y there in (among_front list y x there, omega (arith, below, here))) own inside,
           )
 
@@ -173,4 +173,4 @@ module _ (files : List Importer) (listed : List Text) (once : are_distinct (path
 
   -- what it imports is there
   pub there_at : (place : ℕ) (i : Importer) → slice_get files place ≡ Some i → list_all (λ y. list_any (bytes_eq y) (paths_of files)) i.imports ≡ true
-  there_at place i is = search (rules, list_all_each, all_weaker, all_behind, is_file, behind_at)
+  there_at place i is = search (rules, list_all_each, each_weaker, all_behind, is_file, behind_at)

@@ -12,6 +12,7 @@ use Rattle.pg_schema.specs.rules.TextSets.{is_among}
 use Rattle.pg_schema.specs.Shape.{is_map}
 use Rattle.pg_schema.proofs.lemmas.rules.PairLemmas.{and_false_right, bytes_eq-sym}
 use Rattle.pg_dyn.specs.message.Message.{Message}
+use Rattle.pg_dyn.proofs.Lists.{and_then_some, option_map_some}
 use Rattle.pg_set.specs.refusals.BadReferences.{IsBadField, IsBadMap, IsBadMethod, IsBadType, fields_of_entry, own_entry_name}
 use Rattle.pg_set.specs.refusals.BadReferences as causes
 use Rattle.pg_set.specs.stated.Outlines.{Row}
@@ -28,7 +29,7 @@ use Rattle.pg_set.specs.stated.Views.{FieldView}
 use Rattle.pg_set.proofs.lemmas.lists.Each.{not_some}
 use Rattle.pg_set.proofs.lemmas.lists.Tests.{unequal}
 use Rattle.pg_set.proofs.lemmas.refusals.Oneofs.{bad_oneof, oneof_none}
-use Rattle.pg_set.proofs.lemmas.refusals.Steps.{any_false, any_weaker, each_none, false_any, isnt, map_none, map_some, none_each, of_and, of_cond, of_only, of_then, only_nothing, test_none, then_nothing, then_some}
+use Rattle.pg_set.proofs.lemmas.refusals.Steps.{any_false, any_weaker, each_none, false_any, isnt, map_none, none_each, of_and, of_cond, of_only, of_then, only_nothing, test_none, then_nothing}
 use Rattle.pg_set.proofs.lemmas.refusals.Types.{bad_element, bad_entry, bad_method, element_none, entry_none, method_none}
 
 -- ---- entry types of a name
@@ -150,15 +151,15 @@ module _ (means : NameLookup) (o : Owner) where
     where
       mapped : (b : Bool) (entries : Option Message) → only_if b (option_and_then (λ e. option_map map_of (entry means e)) entries) ≡ Some i → is_map i.0 ≡ true
       mapped true entries h =
-          let (e, is, then) = then_some (λ e. option_map map_of (entry means e)) entries i h in
-          let (pair, has, same) = map_some map_of (entry means e) i then in
+          let (e, is, then) = and_then_some (λ e. option_map map_of (entry means e)) entries i h in
+          let (pair, has, same) = option_map_some map_of (entry means e) i then in
           sym (ap (λ (j : Items). is_map j.0) same)
       mapped false entries h = absurd (none-some i h)
 
       plain : plain_items means m member ≡ Some i → is_map i.0 ≡ false
       plain h =
-          let (e, is, then) = then_some (λ e. option_map (with_element e) (presence m e member)) (element means m) i h in
-          let (p, has, same) = map_some (with_element e) (presence m e member) i then in
+          let (e, is, then) = and_then_some (λ e. option_map (with_element e) (presence m e member)) (element means m) i h in
+          let (p, has, same) = option_map_some (with_element e) (presence m e member) i then in
           sym (ap (λ (j : Items). is_map j.0) same) ∙ no_map m e member p has
 
       of : (b : Bool) → cond b (map_items means o m) (plain_items means m member) ≡ Some i → is_map i.0 ≡ b
@@ -170,16 +171,16 @@ module _ (means : NameLookup) (o : Owner) where
 
   field_map : (entry : List ℕ) (m : Message) (f : FieldView) → field means o m ≡ Some f → is_map_of entry f ≡ is_of_entry entry m
   field_map entry m f h =
-      let (own, is, then) = then_some (λ own. option_map (field_of m own) (items means o m (is_some own))) (oneof o.synthetic o.members m) f h in
-      let (i, has, same) = map_some (field_of m own) (items means o m (is_some own)) f then in
+      let (own, is, then) = and_then_some (λ own. option_map (field_of m own) (items means o m (is_some own))) (oneof o.synthetic o.members m) f h in
+      let (i, has, same) = option_map_some (field_of m own) (items means o m (is_some own)) f then in
       sym (ap (is_map_of entry) same) ∙ ap (λ b. b && bytes_eq (entry_name (text_at proto.FIELD_NAME m)) entry) (items_map m (is_some own) i has)
 
   -- as many fields are maps of an entry type as messages say so
   named_as : (entry : List ℕ) (ms : List Message) (fs : List FieldView) → each (field means o) ms ≡ Some fs → length (filter (is_map_of entry) fs) ≡ length (filter (is_of_entry entry) ms)
   named_as entry [] fs h = ap (λ gs. length (filter (is_map_of entry) gs)) (sym (same_Some [] fs h))
   named_as entry (m ∷ ms) fs h =
-      let (f, is, then) = then_some (λ y. option_map (λ ys. y ∷ ys) (each (field means o) ms)) (field means o m) fs h in
-      let (gs, are, same) = map_some (λ ys. f ∷ ys) (each (field means o) ms) fs then in
+      let (f, is, then) = and_then_some (λ y. option_map (λ ys. y ∷ ys) (each (field means o) ms)) (field means o m) fs h in
+      let (gs, are, same) = option_map_some (λ ys. f ∷ ys) (each (field means o) ms) fs then in
       sym (ap (λ hs. length (filter (is_map_of entry) hs)) same)
       ∙ (ap (λ b. length (cond b (f ∷ filter (is_map_of entry) gs) (filter (is_map_of entry) gs))) (field_map entry m f is)
       ∙ more f gs (is_of_entry entry m) (named_as entry ms gs are))

@@ -13,6 +13,7 @@ use Rattle.pg_schema.specs.rules.TextSets.{is_among}
 use Rattle.pg_schema.proofs.lemmas.rules.PairLemmas.{and_left, and_right}
 use Rattle.pg_dyn.specs.message.Message.{Message}
 use Rattle.pg_dyn.proofs.lemmas.views.SelfSame.{bytes_eq_self}
+use Rattle.pg_dyn.proofs.Lists.{each_weaker}
 use Rattle.pg_set.specs.refusals.BadReferences.{IsBadReference, IsTrail}
 use Rattle.pg_set.specs.refusals.BadReferences as causes
 use Rattle.pg_schema.specs.standing.Visits.{Visits}
@@ -22,7 +23,6 @@ use Rattle.pg_set.specs.declared.descriptor.proto.TheConstants as proto
 use Rattle.pg_set.specs.stated.SetMessages.{text_at, texts_at}
 use Rattle.pg_set.specs.stated.StatedNames.{each, only_if}
 use Rattle.pg_set.specs.stated.StatedOrder.{Paths, file_at, in_post_order, paths_in_post_order, visit, visit_each, visit_one}
-use Rattle.pg_set.proofs.lemmas.lists.Marks.{all_weaker}
 use Rattle.pg_set.proofs.lemmas.order.SetLaws.{paths_are}
 use Rattle.pg_set.proofs.lemmas.order.StatedOrder.{no_order}
 use Rattle.pg_set.proofs.lemmas.order.VisitLaws.{visit_lists}
@@ -192,7 +192,7 @@ module _ (skips : Bool) (files : List Message) where
     where
       once : are_distinct (x ∷ ys) ≡ true → IsBadReference skips files
       once single =
-          let all = all_weaker (λ y. (own : List Text) × (leads_on y ≡ Some own)) (Among (paths_of importers)) (λ y leads. is_file importers y leads.0 leads.1) (x ∷ ys) lead in
+          let all = each_weaker (λ y. (own : List Text) × (leads_on y ≡ Some own)) (Among (paths_of importers)) (λ y leads. is_file importers y leads.0 leads.1) (x ∷ ys) lead in
           let most = length-le_from_is_member same_texts (x ∷ ys) (paths_of importers) (distinct (x ∷ ys) single) (all_listed (paths_of importers) (x ∷ ys) all) in
           let many = many_files in
           absurd (omega (arith, most, many, long))

@@ -2,7 +2,7 @@
 use Rattle.std.proofs.Common.{◌≡◌, ◌↔◌, zero, suc, Bool, true, false, cond, not, ◌&&◌, List, [], ◌∷◌, map, Option, Some, None, option_map, option_and_then, refl, ap, sym, subst, ◌∙◌, arith}
 use Rattle.std.proofs.lemmas.Bool.{false≢true}
 use Rattle.std.proofs.lemmas.List.Folds.{list_all_at}
-use Rattle.std.proofs.lemmas.Option.{none-some, same_Some}
+use Rattle.std.proofs.lemmas.Option.{none-some}
 use Rattle.std.specs.List.{Any, list_all}
 use Rattle.pg_set.specs.stated.StatedNames.{both, each, only_if}
 use Rattle.pg_set.proofs.lemmas.lists.Each.{each_first, each_rest}
@@ -109,14 +109,6 @@ none_each f [] a = none_any (λ x. f x ≡ None) a
 none_each f (x ∷ xs) a = any_of (λ y. f y ≡ None) x xs a (each_first f x xs) (λ rest. each_rest f x xs (none_each f xs rest))
 
 -- ---- what came to something
-
-pub then_some : {A B : Type 0} (f : A → Option B) (o : Option A) (y : B) → option_and_then f o ≡ Some y → (x : A) × (o ≡ Some x) × (f x ≡ Some y)
-then_some f None y h = absurd (none-some y h)
-then_some f (Some x) y h = (x, refl, h)
-
-pub map_some : {A B : Type 0} (f : A → B) (o : Option A) (y : B) → option_map f o ≡ Some y → (x : A) × (o ≡ Some x) × (f x ≡ y)
-map_some f None y h = absurd (none-some y h)
-map_some f (Some x) y h = (x, refl, same_Some (f x) y h)
 
 pub only_some : {A : Type 0} (b : Bool) (o : Option A) (y : A) → only_if b o ≡ Some y → (b ≡ true) × (o ≡ Some y)
 only_some true o y h = (refl, h)

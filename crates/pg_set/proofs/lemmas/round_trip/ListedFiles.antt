@@ -7,7 +7,8 @@ use Rattle.std.specs.Bool.{⊤}
 use Rattle.std.specs.List.{AllByRecursion, list_any}
 use Rattle.std.specs.Str.{bytes_eq}
 use Rattle.pg_schema.specs.standing.Visits.{Visits, all_visited, listed_last, passed_over}
-use Rattle.pg_set.proofs.lemmas.lists.Marks.{any_more, all_weaker}
+use Rattle.pg_dyn.proofs.Lists.{each_weaker}
+use Rattle.pg_set.proofs.lemmas.lists.Marks.{any_more}
 use Rattle.pg_set.proofs.lemmas.order.Visited.{Among, Text, all_behind, rank, same_bytes, visited_listed}
 
 module _ (leads : Text → Option (List Text)) where
@@ -53,7 +54,7 @@ module _ (leads : Text → Option (List Text)) where
         lower : AreLow limit own
         lower =
             let first = low.0.1 in
-            all_weaker (λ z. Stands z × (ranks z < ranks x)) (λ z. Stands z × (ranks z < limit)) (λ z h. let less = h.1 in (h.0, omega (arith, less, first))) own (falls x low.0.0 own is)
+            each_weaker (λ z. Stands z × (ranks z < ranks x)) (λ z. Stands z × (ranks z < limit)) (λ z h. let less = h.1 in (h.0, omega (arith, less, first))) own (falls x low.0.0 own is)
 
         either : (a b : Bool) → list_any (bytes_eq y) inside ≡ a → bytes_eq y x ≡ b → (a || b) ≡ true → (Among inside y → Among f y ⊎ (ranks y < limit)) → Among f y ⊎ (ranks y < limit)
         either true b there e h deeper = deeper there
@@ -69,7 +70,7 @@ module _ (leads : Text → Option (List Text)) where
     follow front visited listed (passed_over f later l x found rest) stand before = follow f later l rest stand.1 before
     follow front visited listed (listed_last f own inside later l x missing is inner rest) stand before =
         follow (inside ++ x ∷ []) later l rest stand.1
-        (follow_more [] inside x (follow f own inside inner (all_weaker (λ z. Stands z × (ranks z < ranks x)) Stands (λ z h. h.0) own low) before)
+        (follow_more [] inside x (follow f own inside inner (each_weaker (λ z. Stands z × (ranks z < ranks x)) Stands (λ z h. h.0) own low) before)
         (own, is, visited_listed leads f own inside inner, new (list_any (bytes_eq x) inside) refl))
       where
         low : AreLow (ranks x) own

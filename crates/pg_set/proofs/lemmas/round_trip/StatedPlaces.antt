@@ -17,7 +17,7 @@ use Rattle.pg_set.specs.stated.Outlines.{enum_rows, file_enums, file_services, f
 use Rattle.pg_set.specs.stated.SetMessages.{children_at}
 use Rattle.pg_set.specs.stated.SetNames.{file_scope, qualified}
 use Rattle.pg_set.specs.stated.StatedFiles.{service_id}
-use Rattle.pg_set.specs.stated.StatedTypes.{enum_id, type_id}
+use Rattle.pg_set.specs.descriptor.Descriptor.{enum_id, type_id}
 use Rattle.pg_set.proofs.lemmas.rows.PlacedRows.{files_named, named_row, types_named}
 
 -- ---- indices in a row

@@ -8,7 +8,6 @@ use Rattle.std.specs.Prelude.{IsSomeAnd}
 use Rattle.std.specs.List.{AllByRecursion, list_all}
 use Rattle.std.specs.Option.{option_and_then}
 use Rattle.std.specs.Str.{bytes_eq}
-use Rattle.std.specs.String.{string_bytes}
 use Rattle.pg_schema.specs.declared.parts.file.File.{File}
 use Rattle.pg_schema.specs.declared.parts.file.Import.{Import}
 use Rattle.pg_schema.specs.declared.parts.message_type.MessageType.{MessageType}
@@ -18,12 +17,13 @@ use Rattle.pg_schema.specs.rules.TextSets.{is_among}
 use Rattle.pg_schema.proofs.lemmas.rules.PairLemmas.{and_both, and_left, and_right}
 use Rattle.pg_dyn.specs.message.Message.{Message}
 use Rattle.pg_dyn.specs.reading.Decoding.{dec}
+use Rattle.pg_dyn.proofs.Lists.{and_then_some, option_map_some}
 use Rattle.pg_schema.specs.standing.Imports.{AreBehind, file_name, imports_apart}
 use Rattle.pg_schema.specs.standing.Places.{most_deep, places_from}
 use Rattle.pg_set.specs.declared.descriptor.proto.TheConstants as proto
 use Rattle.pg_set.specs.round_trip.Readable.{IsReadable}
 use Rattle.pg_set.specs.round_trip.SetOrder.{SetsAreReadAgain}
-use Rattle.pg_set.specs.descriptor.Descriptor.{file_set, written_shape}
+use Rattle.pg_set.specs.descriptor.Descriptor.{enum_id, file_set, type_id, written_shape}
 use Rattle.pg_set.specs.stated.Numbering.{Counts, PlacedType, behind_file, file_places, no_counts, placed_files, types_of_files}
 use Rattle.pg_set.specs.stated.Outlines.{file_enums, file_services, file_types}
 use Rattle.pg_set.specs.stated.PostOrder.{importer_of, imports_at, imports_once, kept_paths, paths_of}
@@ -37,19 +37,20 @@ use Rattle.pg_set.specs.stated.StatedNames.{NameLookup, each}
 use Rattle.pg_set.specs.stated.StatedOrder.{file_at, in_post_order, paths_in_post_order, visit}
 use Rattle.pg_set.specs.stated.StatedServices.{service}
 use Rattle.pg_set.specs.stated.StatedTable.{may_declare, meaning}
-use Rattle.pg_set.specs.stated.StatedTypes.{declared_fields, enum_id, message_type, type_id, type_of}
+use Rattle.pg_set.specs.stated.StatedTypes.{declared_fields, message_type, type_of}
 use Rattle.pg_set.specs.stated.Views.{FileView, ImportView, PartsView, TypeView, enum_view, file_view, import_view, parts_view, service_view, type_view}
 use Rattle.pg_set.proofs.lemmas.round_trip.ListedFiles.{AllFollow, all_follow}
 use Rattle.pg_set.proofs.lemmas.round_trip.StatedPlaces.{ArePlaced, FilesNext, Keep, files_next, types_long}
 use Rattle.pg_set.proofs.lemmas.order.Visited.{Among, Text, same_bytes}
 use Rattle.pg_set.proofs.lemmas.order.VisitLaws.{visit_lists}
-use Rattle.pg_set.proofs.lemmas.refusals.Steps.{map_some, only_some, then_some}
+use Rattle.pg_set.proofs.lemmas.refusals.Steps.{only_some}
+use Rattle.pg_set.proofs.lemmas.written.WrittenFiles.{path_of}
 
 -- ---- steps that came to something
 
 -- the first of each, and the rest
 each_some : {A B : Type 0} (f : A → Option B) (x : A) (xs : List A) (zs : List B) → each f (x ∷ xs) ≡ Some zs → (y : B) × (ys : List B) × (f x ≡ Some y) × (each f xs ≡ Some ys) × (y ∷ ys ≡ zs)
-each_some f x xs zs h = search (rules, then_some, option_map, map_some)
+each_some f x xs zs h = search (rules, and_then_some, option_map, option_map_some)
 
 same_first : {A : Type 0} (x y : A) (xs ys : List A) → x ∷ xs ≡ y ∷ ys → x ≡ y
 same_first x y xs ys is = cc
@@ -72,7 +73,7 @@ types_placed means (q ∷ whole) [] h place p at =
     absurd (cc)
 types_placed means (q ∷ whole) (t ∷ all) h zero p at =
     let (y, ys, is, are, same) = each_some (message_type means) q whole (map type_view (t ∷ all)) h in
-    let (fields, there, made) = map_some (type_of q) (declared_fields means q.named) y is in
+    let (fields, there, made) = option_map_some (type_of q) (declared_fields means q.named) y is in
     let view : type_of q fields ≡ type_view t = made ∙ same_first y (type_view t) ys (map type_view all) same in
     let found : q ≡ p = same_Some q p at in (
       t,
@@ -86,20 +87,17 @@ types_placed means (q ∷ whole) (t ∷ all) h (suc place) p at =
 
 -- ---- files
 
-abbrev import_path : Import → List ℕ
-import_path i = string_bytes i.path
-
 -- the schema's files have the names of these messages, and the imports that are kept of them
 abbrev AreNamed : (skips : Bool) → List Message → List File → Type 0
 AreNamed skips [] [] = ⊤
 AreNamed skips [] (f ∷ fs) = ⊥
 AreNamed skips (m ∷ ms) [] = ⊥
 AreNamed skips (m ∷ ms) (f ∷ fs) =
-    ((file_name f ≡ text_at proto.FILE_NAME m) × (map import_path f.imports.items ≡ kept_paths skips (texts_at proto.FILE_DEPENDENCY m))) × AreNamed skips ms fs
+    ((file_name f ≡ text_at proto.FILE_NAME m) × (map path_of f.imports.items ≡ kept_paths skips (texts_at proto.FILE_DEPENDENCY m))) × AreNamed skips ms fs
 
-view_paths : (is : List Import) → map (λ (v : ImportView). v.path) (map import_view is) ≡ map import_path is
+view_paths : (is : List Import) → map (λ (v : ImportView). v.path) (map import_view is) ≡ map path_of is
 view_paths [] = refl
-view_paths (i ∷ is) = ap (λ ps. import_path i ∷ ps) (view_paths is)
+view_paths (i ∷ is) = ap (λ ps. path_of i ∷ ps) (view_paths is)
 
 kept_seen : (skips : Bool) (public : List ℤ) (place : ℕ) (paths : List (List ℕ)) → map (λ (v : ImportView). v.path) (map import_seen (kept_imports skips public place paths)) ≡ kept_paths skips paths
 kept_seen skips public place [] = refl
@@ -165,10 +163,10 @@ module _ (skips : Bool) where
         let found = found_imports x files m is in
         let called : file_name f ≡ x = here.0 ∙ found.0 in
         let (own, leads, among, new) = follow.0 in
-        let imported : map import_path f.imports.items ≡ own = here.1 ∙ same_Some (kept_paths skips (texts_at proto.FILE_DEPENDENCY m)) own (sym found.1 ∙ leads) in
+        let imported : map path_of f.imports.items ≡ own = here.1 ∙ same_Some (kept_paths skips (texts_at proto.FILE_DEPENDENCY m)) own (sym found.1 ∙ leads) in
         let rest = files_behind (names ++ x ∷ []) paths later fs follow.1 are behind in (
           (
-            sym (list_all-map (is_among names) import_path f.imports.items) ∙ (ap (list_all (is_among names)) imported ∙ all_among names own among),
+            sym (list_all-map (is_among names) path_of f.imports.items) ∙ (ap (list_all (is_among names)) imported ∙ all_among names own among),
             ap (is_among names) called ∙ new,
             subst (λ n. AreBehind (names ++ n ∷ []) fs) (sym called) rest.0,
           ),
@@ -184,7 +182,7 @@ module _ (skips : Bool) (files : List Message) (parts : Parts) where
   in_order : (ordered : List Message) → in_post_order skips files ≡ Some ordered → AreNamed skips ordered parts.files.items → AreBehind [] parts.files.items × (list_all imports_apart parts.files.items ≡ true)
   in_order ordered is named =
       let importers = map (importer_of skips) files in
-      let (paths, there, found) = then_some (each (file_at files)) (paths_in_post_order importers) ordered is in
+      let (paths, there, found) = and_then_some (each (file_at files)) (paths_in_post_order importers) ordered is in
       let (once, visited) = only_some (are_distinct (paths_of importers) && list_all imports_once importers) (visit (length importers) (imports_at importers) [] (paths_of importers)) paths there in
       files_behind skips files (and_right (are_distinct (paths_of importers)) (list_all imports_once importers) once) [] paths ordered parts.files.items
       (all_follow (imports_at importers) (paths_of importers) paths (visit_lists (imports_at importers) (length importers) [] (paths_of importers) paths visited)) found named
@@ -205,11 +203,11 @@ module _ (skips : Bool) (files : List Message) (parts : Parts) where
       let enum_rows = flat_map (file_enums depth) ordered in
       let services = flat_map file_services ordered in
       let (made, files_are, rest) =
-      then_some (λ made. option_and_then (λ named. option_map (λ called. parts_of named (map enum_type enum_rows) called made) (each (service means) services)) (each (message_type means) whole))
+      and_then_some (λ made. option_and_then (λ named. option_map (λ called. parts_of named (map enum_type enum_rows) called made) (each (service means) services)) (each (message_type means) whole))
       (each (file skips) (placed_files depth no_counts ordered)) (parts_view parts) h in
       let (named, types_are, last) =
-      then_some (λ named. option_map (λ called. parts_of named (map enum_type enum_rows) called made) (each (service means) services)) (each (message_type means) whole) (parts_view parts) rest in
-      let (called, services_are, same) = map_some (λ called. parts_of named (map enum_type enum_rows) called made) (each (service means) services) (parts_view parts) last in
+      and_then_some (λ named. option_map (λ called. parts_of named (map enum_type enum_rows) called made) (each (service means) services)) (each (message_type means) whole) (parts_view parts) rest in
+      let (called, services_are, same) = option_map_some (λ called. parts_of named (map enum_type enum_rows) called made) (each (service means) services) (parts_view parts) last in
       let of_files : each (file skips) (placed_files depth no_counts ordered) ≡ Some (map file_view parts.files.items) = files_are ∙ ap (λ (v : PartsView). Some v.files) same in
       let of_types : each (message_type means) whole ≡ Some (map type_view all) = types_are ∙ ap (λ (v : PartsView). Some v.types) same in
       let of_services : each (service means) services ≡ Some (map service_view parts.services.items) = services_are ∙ ap (λ (v : PartsView). Some v.services) same in
@@ -225,7 +223,7 @@ module _ (skips : Bool) (files : List Message) (parts : Parts) where
 
   pub stated_readable : stated_of skips files ≡ Some (parts_view parts) → IsReadable parts
   stated_readable h =
-      let (ordered, is, declared) = then_some (declared_by skips) (in_post_order skips files) (parts_view parts) h in
+      let (ordered, is, declared) = and_then_some (declared_by skips) (in_post_order skips files) (parts_view parts) h in
       let types = flat_map (file_types most_deep) ordered in
       let enums = flat_map (file_enums most_deep) ordered in
       let made =

@@ -13,7 +13,8 @@ use Rattle.pg_set.specs.stated.Outlines.{Row, file_enums, file_types}
 use Rattle.pg_set.specs.stated.SetNames.{files_names, qualified, qualified_names}
 use Rattle.pg_set.specs.stated.StatedTable.{entry_names, meaning, names_of, place_of}
 use Rattle.pg_set.specs.stated.StatedNames.{first_of}
-use Rattle.pg_set.specs.stated.StatedTypes.{enum_id, own_entries, type_id}
+use Rattle.pg_set.specs.descriptor.Descriptor.{enum_id, type_id}
+use Rattle.pg_set.specs.stated.StatedTypes.{own_entries}
 use Rattle.pg_set.proofs.lemmas.lists.NameCounts.{at_most_once, count, count_append}
 use Rattle.pg_set.proofs.lemmas.rows.RowNames.{AreMeant}
 use Rattle.pg_set.proofs.lemmas.rows.NamesOfRows.{as_entry, as_row, few_in_files}

@@ -5,7 +5,7 @@ use Rattle.pg_schema.specs.declared.parts.field.TypeId.{TypeId}
 use Rattle.pg_schema.specs.declared.parts.service.ServiceId.{ServiceId}
 use Rattle.pg_schema.specs.rules.Scopes.{enum_places, service_places, type_places}
 use Rattle.pg_set.specs.stated.StatedFiles.{service_id}
-use Rattle.pg_set.specs.stated.StatedTypes.{enum_id, type_id}
+use Rattle.pg_set.specs.descriptor.Descriptor.{enum_id, type_id}
 
 pub types_of_places : (ids : List TypeId) → map type_id (type_places ids) ≡ ids
 types_of_places [] = refl

@@ -18,7 +18,7 @@ one_holds P test [] all = tt
 one_holds P test (f ∷ fs) all =
     elim (test f) as (λ b. AllByRecursion P (where_found (λ f. f) (cond b (Some f) (find test fs)))) [ true ↦ (all.0, tt) | false ↦ one_holds P test fs all.1 ]
 
-both_hold : (P : Field → Type 0) (xs ys : List Field) → AllByRecursion P xs → AllByRecursion P ys → AllByRecursion P (xs ++ ys)
+pub both_hold : (P : Field → Type 0) (xs ys : List Field) → AllByRecursion P xs → AllByRecursion P ys → AllByRecursion P (xs ++ ys)
 both_hold P [] ys h k = k
 both_hold P (x ∷ xs) ys h k = (h.0, both_hold P xs ys h.1 k)
 

@@ -12,6 +12,7 @@ use Rattle.pg_schema.proofs.lemmas.rules.PairLemmas.{and_left, and_right}
 use Rattle.pg_set.specs.writing.Messages.{declared_fields, where_found}
 use Rattle.pg_set.proofs.lemmas.lists.Tests.{itself, same_number, same_turned}
 use Rattle.pg_set.proofs.lemmas.lists.Matched.{Has, rest, rest_length, still}
+use Rattle.pg_set.proofs.lemmas.writing.FieldLaws.{both_hold}
 
 -- ---- each is found by its number
 
@@ -139,13 +140,9 @@ one_such : (P : Field → Type 0) (fs : List Field) → AllByRecursion P fs → 
 one_such P [] all n = tt
 one_such P (f ∷ fs) all n = search (rules, one_such P fs all.1 n)
 
-both_such : (P : Field → Type 0) (xs ys : List Field) → AllByRecursion P xs → AllByRecursion P ys → AllByRecursion P (xs ++ ys)
-both_such P [] ys a b = b
-both_such P (x ∷ xs) ys a b = (a.0, both_such P xs ys a.1 b)
-
 all_such : (P : Field → Type 0) (fs : List Field) → AllByRecursion P fs → (ns : List ℕ) → AllByRecursion P (flat_map (found fs) ns)
 all_such P fs all [] = tt
-all_such P fs all (n ∷ ns) = both_such P (found fs n) (flat_map (found fs) ns) (one_such P fs all n) (all_such P fs all ns)
+all_such P fs all (n ∷ ns) = both_hold P (found fs n) (flat_map (found fs) ns) (one_such P fs all n) (all_such P fs all ns)
 
 pub such_declared : (P : Field → Type 0) (t : MessageType) → AllByRecursion P t.fields.items → AllByRecursion P (declared_fields t)
 such_declared P t all = all_such P t.fields.items all t.declared.items

@@ -6,7 +6,6 @@ use Rattle.std.proofs.lemmas.List.{append-nil, append_assoc, map-append}
 use Rattle.std.proofs.lemmas.Simd.{map-map}
 use Rattle.std.specs.List.{AllByRecursion, list_all}
 use Rattle.std.specs.Str.{bytes_eq}
-use Rattle.std.specs.String.{string_bytes}
 use Rattle.pg_schema.specs.declared.parts.file.File.{File}
 use Rattle.pg_schema.specs.declared.parts.file.Import.{Import}
 use Rattle.pg_schema.specs.rules.Pairs.{are_distinct, differ}
@@ -21,7 +20,7 @@ use Rattle.pg_set.specs.stated.SetMessages.{texts_at}
 use Rattle.pg_set.specs.stated.StatedOrder.{in_post_order}
 use Rattle.pg_set.proofs.lemmas.order.StatedOrder.{IsFile, file_named, files_ordered, name}
 use Rattle.pg_set.proofs.lemmas.order.Visited.{among_last, imports_found}
-use Rattle.pg_set.proofs.lemmas.written.WrittenFiles.{file_called, file_imports, file_written}
+use Rattle.pg_set.proofs.lemmas.written.WrittenFiles.{file_called, file_imports, file_written, path_of}
 
 -- ---- the names of files
 
@@ -44,11 +43,8 @@ files_distinct names (f ∷ fs) behind =
 
 -- ---- their order
 
-abbrev import_path : Import → List ℕ
-import_path i = string_bytes i.path
-
 abbrev file_importer : File → Importer
-file_importer f = record { path = file_name f; imports = map import_path f.imports.items }
+file_importer f = record { path = file_name f; imports = map path_of f.imports.items }
 
 all_kept : (paths : List (List ℕ)) → kept_paths false paths ≡ paths
 all_kept [] = refl
@@ -69,13 +65,13 @@ module _ (all : List File) (behind : AreBehind [] all) where
   Lists front visited listed = Visits bytes_eq leads front visited listed
 
   -- imports that are there are passed over
-  passed : (names : List (List ℕ)) (imports : List Import) → imports_among names imports ≡ true → Lists names (map import_path imports) names
+  passed : (names : List (List ℕ)) (imports : List Import) → imports_among names imports ≡ true → Lists names (map path_of imports) names
   passed names [] among = all_visited names
   passed names (i ∷ imports) among =
-      passed_over names (map import_path imports) names (import_path i) (and_left (is_among names (import_path i)) (imports_among names imports) among)
-      (passed names imports (and_right (is_among names (import_path i)) (imports_among names imports) among))
+      passed_over names (map path_of imports) names (path_of i) (and_left (is_among names (path_of i)) (imports_among names imports) among)
+      (passed names imports (and_right (is_among names (path_of i)) (imports_among names imports) among))
 
-  leads_at : (front : List File) (f : File) (files : List File) → front ++ f ∷ files ≡ all → leads (file_name f) ≡ Some (map import_path f.imports.items)
+  leads_at : (front : List File) (f : File) (files : List File) → front ++ f ∷ files ≡ all → leads (file_name f) ≡ Some (map path_of f.imports.items)
   leads_at front f files whole =
       imports_found (map file_importer all) (length front) (file_importer f) (ap are_distinct (paths_are all) ∙ files_distinct [] all behind)
       (subst (λ xs. slice_get (map file_importer xs) (length front) ≡ Some (file_importer f)) whole (there front f files))
@@ -83,7 +79,7 @@ module _ (all : List File) (behind : AreBehind [] all) where
   visited : (front files : List File) → front ++ files ≡ all → AreBehind (map file_name front) files → Lists (map file_name front) (map file_name files) (map file_name all)
   visited front [] whole later = subst (λ ns. Lists (map file_name front) [] ns) (ap (map file_name) (sym (append-nil front) ∙ whole)) (all_visited (map file_name front))
   visited front (f ∷ files) whole later =
-      listed_last (map file_name front) (map import_path f.imports.items) (map file_name front) (map file_name files) (map file_name all) (file_name f) later.1 (leads_at front f files whole)
+      listed_last (map file_name front) (map path_of f.imports.items) (map file_name front) (map file_name files) (map file_name all) (file_name f) later.1 (leads_at front f files whole)
       (passed (map file_name front) f.imports.items later.0)
       (subst (λ ns. Lists ns (map file_name files) (map file_name all)) (map-append file_name front (f ∷ []))
       (visited (front ++ f ∷ []) files (append_assoc front (f ∷ []) files ∙ whole) (subst (λ ns. AreBehind ns files) (sym (map-append file_name front (f ∷ []))) later.2)))

@@ -1,6 +1,5 @@
 -- Message types are nested no deeper than there are types: the name of each is longer than that of the one that holds it.
-use Rattle.std.proofs.Common.{◌≡◌, ℕ, zero, suc, ◌+◌, ◌<◌, true, inl, inr, List, [], ◌∷◌, length, Some, slice_get, refl, ap, sym, subst, ◌∙◌, arith, length-append, rules}
-use Rattle.std.proofs.lemmas.Grind.{common_steps}
+use Rattle.std.proofs.Common.{◌≡◌, ℕ, zero, suc, ◌+◌, ◌<◌, true, inl, inr, List, [], ◌∷◌, length, Some, slice_get, refl, ap, sym, subst, ◌∙◌, arith, rules}
 use Rattle.std.proofs.lemmas.Bool.{false≢true}
 use Rattle.std.proofs.lemmas.Option.{none-some, same_Some}
 use Rattle.std.specs.String.{string_bytes}
@@ -11,29 +10,21 @@ use Rattle.pg_schema.specs.rules.Scopes.{are_enums_in, are_types_in, is_in, is_n
 use Rattle.pg_schema.specs.rules.Sound.{IsSound}
 use Rattle.pg_schema.proofs.lemmas.rules.PairLemmas.{and_both, and_left, and_right}
 use Rattle.pg_schema.specs.standing.Nesting.{holds_inside, nest_within}
+use Rattle.pg_schema.specs.standing.Places.{places_from}
 use Rattle.pg_set.proofs.lemmas.lists.Matched.{Has, rest, rest_length, still}
-use Rattle.pg_set.proofs.lemmas.written.names.WrittenNames.{name_within, named_there}
+use Rattle.pg_set.proofs.lemmas.written.names.WrittenNames.{named_there}
 use Rattle.pg_set.proofs.lemmas.rows.RowPlaces.{test_at}
+use Rattle.pg_set.proofs.lemmas.writing.SoundPlaces.{longer}
 
-longer : (scope name : List ℕ) → is_in scope name ≡ true → length scope < length name
-longer [] [] inside = absurd (false≢true inside)
-longer [] (b ∷ bytes) inside = omega arith
-longer (b ∷ bytes) name inside = grind (arith, common_steps, name_within, length-append)
-
--- so many indices from one on
-abbrev places : (start : ℕ) → (count : ℕ) → List ℕ
-places start zero = []
-places start (suc count) = start ∷ places (suc start) count
-
-places_length : (start count : ℕ) → length (places start count) ≡ count
+places_length : (start count : ℕ) → length (places_from start count) ≡ count
 places_length start zero = refl
 places_length start (suc count) = ap suc (places_length (suc start) count)
 
-has_place : (types : List MessageType) (start i : ℕ) (t : MessageType) → slice_get types i ≡ Some t → Has (λ k. k ≡ start + i) (places start (length types))
+has_place : (types : List MessageType) (start i : ℕ) (t : MessageType) → slice_get types i ≡ Some t → Has (λ k. k ≡ start + i) (places_from start (length types))
 has_place [] start i t is = absurd (none-some t is)
 has_place (s ∷ types) start zero t is = inl (omega arith)
 has_place (s ∷ types) start (suc i) t is =
-    inr (subst (λ n. Has (λ k. k ≡ n) (places (suc start) (length types))) (moved start i) (has_place types (suc start) i t is))
+    inr (subst (λ n. Has (λ k. k ≡ n) (places_from (suc start) (length types))) (moved start i) (has_place types (suc start) i t is))
   where
     moved : (a b : ℕ) → suc a + b ≡ a + suc b
     moved a b = omega arith
@@ -97,7 +88,7 @@ module _ (parts : Parts) (sound : IsSound parts) where
   pub nest_enough : (depth : ℕ) (scope : List ℕ) (ids : List TypeId) → are_types_in types scope ids ≡ true → nest_within depth types ids ≡ true → nest_within (length types) types ids ≡ true
   nest_enough depth scope ids stand shallow =
       subst (λ n. nest_within n types ids ≡ true) (places_length 0 (length types))
-      (fits depth (places 0 (length types)) scope ids (λ i t is far. subst (λ n. Has (λ k. k ≡ n) (places 0 (length types))) (from_zero i) (has_place types 0 i t is)) stand shallow)
+      (fits depth (places_from 0 (length types)) scope ids (λ i t is far. subst (λ n. Has (λ k. k ≡ n) (places_from 0 (length types))) (from_zero i) (has_place types 0 i t is)) stand shallow)
     where
       from_zero : (i : ℕ) → 0 + i ≡ i
       from_zero i = omega arith
