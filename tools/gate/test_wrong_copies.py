@@ -123,6 +123,9 @@ class Copies(unittest.TestCase):
         self.assertEqual(alone("pub f : goal.f\nf t c = omega (arith, c.decreases)", "f", True), "")
         places = "use M.+both.Goals.{f-in-None, fs-x, g-in-Some}\nuse M.+both.Goals.{g-x}\nuse M.+both.Goals as goal\n"
         self.assertEqual(alone(places, "f", False), "use M.+both.Goals.{in-None}\nuse M.+both.Goals as goal\n")
+        required = "pub returns : goal.returns\nreturns g t c = f (x c.requires.1.1.1 none) c.requires.here.y c.in_err-bytes.requires.1"
+        alike = "pub returns : goal.returns\nreturns g c = f (x c.requires none) c.requires.here.y c.in_err-bytes.requires.1"
+        self.assertEqual(alone(required, "f", True), alike)
         falls = "pub f-{0}-requires : goal.f-{0}-requires\nf-{0}-requires t c = (omega (arith, c.x), (c.y, z))"
         left = "pub h-requires : goal.h-requires\nh-requires c = (omega (arith, c.x), (c.y, z))"
         for called, wanted in [("g", ""), ("h", left)]:

@@ -42,6 +42,8 @@ SEARCHED = re.compile(r"^pub (\S+) : goal\.\1\n\1(?: \w+)* = search rules$", re.
 # A line that takes places from a cycle's goals, and an answer whose first part is a measure's.
 PLACES = re.compile(r"^(use \S*\+\S*\.Goals\.\{)([^}]*)\}\n", re.M)
 MEASURED = re.compile(r" c = \(omega ")
+# What a function with a type parameter requires, in a cycle: it is last there.
+LAST_REQUIRED = re.compile(r"\bc\.requires(?:\.1)+(?![\w.])")
 
 
 class Left(Exception):
@@ -263,7 +265,7 @@ def is_measured(goal, item, members):
 def alone(text, name, is_only, members=()):
     """Returns what a cycle's proof file has for the function of this name, as it is where that is in no cycle with these: its goals have no such name,
     which they don't have in a cycle of one either, and its answers aren't given that all fall by a measure. Those of the measure go, also what a
-    call of one of these requires: beside the measure it is left to the search."""
+    call of one of these requires: beside the measure it is left to the search. What it requires itself is all that it does there."""
     found = []
     for item in (text if is_only else PLACES.sub(lambda line: own_places(line, name), text)).split("\n\n"):
         of = OF_CYCLE.search(item)
@@ -271,6 +273,7 @@ def alone(text, name, is_only, members=()):
         if not of:
             found.append(item)
         elif "c.decreases" not in item and of[1] + of[2] != f"decreases-{name}" and (is_only or own != of[2]) and not is_measured(own, item, members):
+            item = LAST_REQUIRED.sub("c.requires", item)
             found.append(re.sub(rf"(?<!\S)(goal\.)?{re.escape(of[1] + of[2])}((?: g)?)(?: t(?= c =))?(?!\S)", rf"\g<1>{of[1]}{own}\g<2>", item))
     return "\n\n".join(found)
 
