@@ -1,5 +1,5 @@
 -- From a field along the later ones of its new oneof: what is passed over joins nothing.
-use Rattle.std.proofs.Common.{◌≡◌, ℕ, suc, ◌+◌, ◌<◌, ◌≤◌, List, [], ◌∷◌, ◌++◌, map, length, set, slice_index_or, nat_eq, Bool, true, false, not, ◌&&◌, if◌then◌else◌, Option, Some, None, refl, ap, ap₂, sym, ◌∙◌, subst, subst₂, arith, eqb-true, eq-eqb, append_assoc, length-set, rules}
+use Rattle.std.proofs.Common.{◌≡◌, ℕ, suc, ◌+◌, ◌<◌, ◌≤◌, List, [], ◌∷◌, ◌++◌, map, length, set, slice_index_or, nat_eq, Bool, true, false, not, ◌&&◌, if◌then◌else◌, Option, Some, None, refl, ap, ap₂, sym, ◌∙◌, subst, subst₂, arith, eqb-true, eq-eqb, append_assoc, length-set}
 use Rattle.std.proofs.lemmas.List.{get_or-set_same, get_or-set_other}
 use Rattle.pg_schema.specs.declared.parts.field.Field.{Field}
 use Rattle.pg_schema.specs.Parts.{field_shape}
@@ -22,6 +22,9 @@ one None q h = absurd (cc)
 
 turned : (o q : Option ℕ) → same_oneof o q ≡ true → same_oneof q o ≡ true
 turned o q h = subst₂ (λ x y. same_oneof x y ≡ true) (one o q h) (sym (one o q h)) h
+
+pub outside_by : (list : List Field) (f g : Field) (to : ℕ) → g ≡ slice_index_or list to g → same_oneof f.oneof g.oneof ≡ false → IsOutside list f to
+outside_by list f g to is apart = λ h inside h_is. subst (λ (x : Field). same_oneof f.oneof x.oneof ≡ false) (item_is list to g h inside is h_is) apart
 
 -- what isn't in the old oneof of the next field isn't in that of a field beside it there
 pub outside_over :
@@ -55,23 +58,42 @@ module _ (gs : List FieldShape) (list : List Field) where
   first_before n f inside is old new kept before o = subst (Passes gs list o IsAny n) (sym (kept o)) (of (same_oneof (new_oneof gs (field_shape f)) o) refl)
     where
       apart : (a : FieldShape) → new_oneof gs a ≡ o → same_oneof (new_oneof gs (field_shape f)) o ≡ false → same_oneof (new_oneof gs a) (new_oneof gs (field_shape f)) ≡ false
-      apart a own h = search (rules, turned)
+      apart a own h = elim (same_oneof (new_oneof gs a) (new_oneof gs (field_shape f))) as (λ t. same_oneof (new_oneof gs a) (new_oneof gs (field_shape f)) ≡ t → t ≡ false) [
+        | true ↦ λ k. absurd (let t : same_oneof (new_oneof gs (field_shape f)) o ≡ true = ap (same_oneof (new_oneof gs (field_shape f))) (sym own) ∙ turned (new_oneof gs a) (new_oneof gs (field_shape f)) k in cc)
+        | false ↦ λ k. refl
+      ] refl
 
       of : (t : Bool) → same_oneof (new_oneof gs (field_shape f)) o ≡ t → Passes gs list o IsAny n (if t then n else old o)
       of true h = record { later = omega arith; same = λ a own any. refl; member = λ g there g_is. subst (λ (x : Field). same_oneof o (new_oneof gs (field_shape x)) ≡ true) (item_is list n f g inside is g_is) (turned (new_oneof gs (field_shape f)) o h) }
-      of false h = search (rules, passed, joins_is, apart)
+      of false h = record {
+        later = (let l = (before o).later in omega arith);
+        same = λ a own any. passed a n f inside is (joins_is gs a (field_shape f) ∙ ap (λ t. t && not (same_oneof a.oneof f.oneof)) (apart a own h)) ∙ (before o).same a own any;
+        member = (before o).member;
+      }
 
   -- the next field outside the old oneof, where the next field is in it
   pub other_passes : (f g : Field) (n next other : ℕ) → next < length list → g ≡ slice_index_or list next g → same_oneof f.oneof g.oneof ≡ true → Passes gs list (new_oneof gs (field_shape f)) IsAny n next →
       Passes gs list (new_oneof gs (field_shape g)) (IsBeside g) (suc next) other → Passes gs list (new_oneof gs (field_shape f)) (IsBeside f) n other
-  other_passes f g n next other inside is old p q = search (rules, one, passed, in_old)
+  other_passes f g n next other inside is old p q =
+      let same : new_oneof gs (field_shape f) ≡ new_oneof gs (field_shape g) = one _ _ (p.member g inside is) in
+      let here : (a : FieldShape) → IsBeside f a → IsBeside g a = λ a h. subst (λ o. same_oneof a.oneof o ≡ true) (one f.oneof g.oneof old) h in
+      record {
+        later = (let l = p.later in let k = q.later in omega arith);
+        same = λ a own h. p.same a own tt ∙ passed a next g inside is (in_old a g (here a h)) ∙ q.same a (own ∙ same) (here a h);
+        member = λ h there h_is. ap (λ o. same_oneof o (new_oneof gs (field_shape h))) same ∙ q.member h there h_is;
+      }
 
   pub links_before : (n : ℕ) (links : List Link) (link : Link) → n < length list → AreLinks gs list (suc n) links → IsLink gs list n link → AreLinks gs list n (set links n link)
   links_before n links link inside are is = record { long = length-set links n link ∙ are.long; each = λ i d from there. of i d from there (nat_eq i n) refl }
     where
       of : (i : ℕ) (d : Link) → n ≤ i → i < length list → (b : Bool) → nat_eq i n ≡ b → IsLink gs list i (slice_index_or (set links n link) i d)
-      of i d from there true h = search (rules, eqb-true, slice_index_or, set, get_or-set_same)
-      of i d from there false h = search (rules, eq-eqb, get_or-set_other)
+      of i d from there true h =
+          let at : i ≡ n = eqb-true i n h in
+          let inside_links : n < length links = (let long = are.long in omega arith) in
+          subst (λ k. IsLink gs list k (slice_index_or (set links n link) k d)) (sym at) (subst (IsLink gs list n) (sym (get_or-set_same links n link d inside_links)) is)
+      of i d from there false h =
+          let apart : (i ≡ n → ⊥) = λ e. absurd (let t = eq-eqb i n e in cc) in
+          subst (IsLink gs list i) (sym (get_or-set_other links n i link d apart)) (are.each i d (let a = apart in omega arith) there)
 
   -- what was put out with what is left makes the total, and the next one is in the new oneof
   pub record Follows (a : FieldShape) (total now : List Choice) (later : ℕ) : Type 0 where
@@ -84,7 +106,10 @@ module _ (gs : List FieldShape) (list : List Field) where
     new_is = one (new_oneof gs a) (new_oneof gs (field_shape b)) (f.member b inside is)
 
     pub skips : (other : ℕ) → same_oneof a.oneof b.oneof ≡ true → Passes gs list (new_oneof gs (field_shape b)) (IsBeside b) (suc later) other → Follows a total now other
-    skips other old p = search (rules, passed, in_old, new_is)
+    skips other old p = record {
+      so_far = ap (λ cs. now ++ affordable cs) (sym (passed a later b inside is (in_old a b old) ∙ p.same a new_is old)) ∙ f.so_far;
+      member = λ g there g_is. ap (λ o. same_oneof o (new_oneof gs (field_shape g))) new_is ∙ p.member g there g_is;
+    }
 
     pub offers : (next : ℕ) (after : List Choice) → same_oneof a.oneof b.oneof ≡ false → Passes gs list (new_oneof gs (field_shape b)) IsAny (suc later) next → after ≡ now ++ affordable (meeting a (field_shape b)) → Follows a total after next
     offers next after apart p after_is =
