@@ -6,14 +6,17 @@ use pg_wire::Record;
 
 /// Of a message inside the type alone is looked at: what it holds shows when both are written.
 fn is_value(lent: &ValueRef<'_>, owned: &Value) -> bool {
-    match (lent, owned) {
-        (ValueRef::Int(first), Value::Int(second)) => first.get() == *second,
-        (ValueRef::F32(first), Value::F32(second)) => first == second,
-        (ValueRef::F64(first), Value::F64(second)) => first == second,
-        (ValueRef::Text(first), Value::Text(second)) => *first == second.as_str(),
-        (ValueRef::Bytes(first), Value::Bytes(second)) => *first == second.as_slice(),
-        (ValueRef::Msg(first), Value::Msg(second)) => first.type_id() == second.type_id(),
-        _ => false,
+    match lent {
+        ValueRef::Int(first) => matches!(owned, Value::Int(second) if first.get() == *second),
+        ValueRef::F32(first) => matches!(owned, Value::F32(second) if first == second),
+        ValueRef::F64(first) => matches!(owned, Value::F64(second) if first == second),
+        ValueRef::Text(first) => matches!(owned, Value::Text(second) if *first == second.as_str()),
+        ValueRef::Bytes(first) => {
+            matches!(owned, Value::Bytes(second) if *first == second.as_slice())
+        }
+        ValueRef::Msg(first) => {
+            matches!(owned, Value::Msg(second) if first.type_id() == second.type_id())
+        }
     }
 }
 
@@ -59,12 +62,17 @@ fn are_entries(lent: &[EntryRef<'_>], owned: &[(Value, Value)]) -> bool {
 }
 
 fn is_content(lent: &ContentRef<'_>, owned: &Content) -> bool {
-    match (lent, owned) {
-        (ContentRef::One(first), Content::One(second)) => is_value(first, second),
-        (ContentRef::Many(first), Content::Many(second)) => are_values(first, second),
-        (ContentRef::Numbers(first), Content::Many(second)) => are_numbers(first, second),
-        (ContentRef::Map(first), Content::Map(second)) => are_entries(first, second),
-        _ => false,
+    match lent {
+        ContentRef::One(first) => matches!(owned, Content::One(second) if is_value(first, second)),
+        ContentRef::Many(first) => {
+            matches!(owned, Content::Many(second) if are_values(first, second))
+        }
+        ContentRef::Numbers(first) => {
+            matches!(owned, Content::Many(second) if are_numbers(first, second))
+        }
+        ContentRef::Map(first) => {
+            matches!(owned, Content::Map(second) if are_entries(first, second))
+        }
     }
 }
 

@@ -16,6 +16,11 @@ pub(crate) fn name_of(alloc: Global, error: DynError) -> Result<String, AllocErr
     debug(alloc, &error)
 }
 
+fn spelled_bytes(alloc: Global, bytes: &[u8]) -> Result<String, AllocError> {
+    let digits = hex::encode(alloc, bytes)?;
+    format!(in alloc; "#{digits}")
+}
+
 /// An integer, `f` or `d` and the bits of a float or a double, `'` and a string, `#` and bytes, or
 /// a message.
 fn spelled_value(alloc: Global, value: &Value) -> Result<String, AllocError> {
@@ -24,7 +29,7 @@ fn spelled_value(alloc: Global, value: &Value) -> Result<String, AllocError> {
         Value::F32(bits) => format!(in alloc; "f{bits}"),
         Value::F64(bits) => format!(in alloc; "d{bits}"),
         Value::Text(text) => format!(in alloc; "'{text}"),
-        Value::Bytes(bytes) => format!(in alloc; "#{}", hex::encode(alloc, bytes.as_slice())?),
+        Value::Bytes(bytes) => spelled_bytes(alloc, bytes.as_slice()),
         Value::Msg(_) => String::from_str(alloc, "message"),
     }
 }

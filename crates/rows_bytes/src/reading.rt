@@ -15,6 +15,10 @@ fn text(alloc: Global, text: &str) -> Result<String, DynError> {
     Ok(String::from_str(alloc, text)?)
 }
 
+fn word_of(alloc: Global, bytes: &[u8]) -> Result<String, DynError> {
+    Ok(word(alloc, bytes)?)
+}
+
 fn answer(alloc: Global, holds: bool) -> Result<String, DynError> {
     text(alloc, if holds { "true" } else { "false" })
 }
@@ -40,7 +44,22 @@ fn is_copied(
     message: &Message,
 ) -> Result<bool, DynError> {
     let copy = lent.to_message(alloc)?;
-    Ok(is_alike(lent, &copy) && written(alloc, schema, &copy)? == written(alloc, schema, message)?)
+    if !is_alike(lent, &copy) {
+        return Ok(false);
+    }
+    is_written_as(alloc, schema, &copy, message)
+}
+
+/// Whether the same is written of both messages.
+fn is_written_as(
+    alloc: Global,
+    schema: &Schema,
+    first: &Message,
+    second: &Message,
+) -> Result<bool, DynError> {
+    let first = written(alloc, schema, first)?;
+    let second = written(alloc, schema, second)?;
+    Ok(first == second)
 }
 
 /// Why neither of two readers reads bytes: `WrongKind` where they give other reasons, unless one of
@@ -86,7 +105,8 @@ pub(crate) fn written(
     if !fits(schema, message) {
         return Err(DynError::WrongKind);
     }
-    Ok(word(alloc, &encode(alloc, schema, message)?)?)
+    let bytes = encode(alloc, schema, message)?;
+    word_of(alloc, &bytes)
 }
 
 /// What is written again of bytes that are read, by a message that borrows from them.
@@ -94,10 +114,9 @@ fn rewritten_lent(alloc: Global, schema: &Schema, bytes: &[u8]) -> Result<String
     if !schema.has(FIRST) {
         return Err(DynError::NoSuchField);
     }
-    match decode_ref(alloc, schema, FIRST, bytes, 100) {
-        Ok(message) => Ok(word(alloc, &encode_ref(alloc, schema, &message)?)?),
-        Err(error) => Err(error),
-    }
+    let message = decode_ref(alloc, schema, FIRST, bytes, 100)?;
+    let bytes = encode_ref(alloc, schema, &message)?;
+    word_of(alloc, &bytes)
 }
 
 /// What is written again of bytes that both readers read; of a message that borrows from them it is
@@ -163,7 +182,12 @@ pub(crate) fn copied(
         return Err(DynError::NoSuchField);
     }
     let lent = decode_ref_unlimited(alloc, schema, message.type_id(), &bytes)?;
-    written(alloc, schema, &lent.to_message(alloc)?)
+    written_copy(alloc, schema, &lent)
+}
+
+fn written_copy(alloc: Global, schema: &Schema, lent: &MessageRef<'_>) -> Result<String, DynError> {
+    let copy = lent.to_message(alloc)?;
+    written(alloc, schema, &copy)
 }
 
 /// What is written of the copy of a message.
@@ -194,8 +218,25 @@ fn of_both(
     answer(alloc, fits(other, &message))
 }
 
-/// What is written by the other schema of a message that borrows, where it is one of that too; of
-/// its copy it is the same.
+/// What a schema writes of a message that borrows, where it is one of that schema; of its copy it
+/// is the same.
+fn written_lent(alloc: Global, schema: &Schema, lent: &MessageRef<'_>) -> Result<String, DynError> {
+    let copy = lent.to_message(alloc)?;
+    if !fits(schema, &copy) {
+        return Err(DynError::WrongKind);
+    }
+    let bytes = encode_ref(alloc, schema, lent)?;
+    same_word(alloc, &bytes, &encode(alloc, schema, &copy)?)
+}
+
+fn same_word(alloc: Global, lent: &[u8], owned: &[u8]) -> Result<String, DynError> {
+    if lent != owned {
+        return text(alloc, "written otherwise where it borrows");
+    }
+    word_of(alloc, lent)
+}
+
+/// What is written by the other schema of a message that borrows, where it is one of that too.
 fn across(
     alloc: Global,
     schema: &Schema,
@@ -206,15 +247,7 @@ fn across(
         return Err(DynError::NoSuchField);
     }
     let lent = decode_ref(alloc, schema, FIRST, bytes, 100)?;
-    let copy = lent.to_message(alloc)?;
-    if !fits(other, &copy) {
-        return Err(DynError::WrongKind);
-    }
-    let found = encode_ref(alloc, other, &lent)?;
-    if encode(alloc, other, &copy)? != found {
-        return text(alloc, "written otherwise where it borrows");
-    }
-    Ok(word(alloc, &found)?)
+    written_lent(alloc, other, &lent)
 }
 
 /// What the other schema writes of an empty message in whose field 1 the message is set.
@@ -241,13 +274,9 @@ fn outside(
     if !schema.has(FIRST) {
         return Err(DynError::NoSuchField);
     }
-    match decode_ref(alloc, schema, FIRST, bytes, 100) {
-        Ok(message) => Ok(word(
-            alloc,
-            &encode_unshared_ref(alloc, schema, &message, other, FIRST)?,
-        )?),
-        Err(error) => Err(error),
-    }
+    let message = decode_ref(alloc, schema, FIRST, bytes, 100)?;
+    let bytes = encode_unshared_ref(alloc, schema, &message, other, FIRST)?;
+    word_of(alloc, &bytes)
 }
 
 fn shown(alloc: Global, schema: &Schema, bytes: &[u8]) -> Result<String, DynError> {

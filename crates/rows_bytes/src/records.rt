@@ -16,14 +16,18 @@ fn varint(alloc: Global, bytes: &[u8]) -> Result<String, AllocError> {
     }
 }
 
-/// A record's number, wire type and body.
-fn spelled(alloc: Global, record: &Record) -> Result<String, AllocError> {
+/// A record's body, and the whole record.
+fn spelled_body(alloc: Global, record: &Record) -> Result<String, AllocError> {
     let body = word(alloc, record.body)?;
     let whole = word(alloc, record.bytes)?;
-    format!(in alloc;
-        "{} {:?} {body} of {whole}, ",
-        record.number, record.wire_type
-    )
+    format!(in alloc; "{body} of {whole}")
+}
+
+/// A record's number, wire type and bytes.
+fn spelled(alloc: Global, record: &Record) -> Result<String, AllocError> {
+    let wire_type = debug(alloc, &record.wire_type)?;
+    let bytes = spelled_body(alloc, record)?;
+    format!(in alloc; "{} {wire_type} {bytes}, ", record.number)
 }
 
 fn spelled_next(alloc: Global, next: Result<Record, WireError>) -> Result<String, AllocError> {
@@ -83,8 +87,7 @@ fn of_bytes(alloc: Global, call: &str, bytes: &[u8]) -> Result<String, AllocErro
 }
 
 /// How many bytes are written in front of others, and all.
-fn written(alloc: Global, input: &str) -> Result<String, AllocError> {
-    let value = input.parse::<u64>().unwrap_or(0);
+fn written(alloc: Global, value: u64) -> Result<String, AllocError> {
     let mut out = [0xaa; 10];
     let length = write_varint(value, &mut out);
     let bytes = word(alloc, &out)?;
@@ -113,7 +116,7 @@ fn zigzag_of(alloc: Global, input: &str) -> Result<String, AllocError> {
 
 fn of_number(alloc: Global, call: &str, input: &str) -> Result<String, AllocError> {
     match call {
-        "write" => written(alloc, input),
+        "write" => written(alloc, input.parse().unwrap_or(0)),
         "length" => length(alloc, input),
         "tag" => length_of_tag(alloc, input),
         _ => zigzag_of(alloc, input),

@@ -14,10 +14,11 @@ pub(crate) fn set(
     number: u32,
     content: Content,
 ) -> Result<(), (DynError, Content)> {
-    if !fits(schema, message) {
-        return Err((DynError::TooLong, content));
+    if fits(schema, message) {
+        message.set(schema, number, content)
+    } else {
+        Err((DynError::TooLong, content))
     }
-    message.set(schema, number, content)
 }
 
 /// Sets the contents in turn, up to one that is refused.

@@ -19,10 +19,10 @@ pub(crate) struct Types {
 impl Types {
     /// Schemas of a type without fields; none where memory is refused.
     pub(crate) fn empty(alloc: Global) -> Result<Option<Types>, AllocError> {
-        match schemas(alloc, "M", "M")? {
-            Some((own, other)) => Ok(Some(Types { own, other })),
-            None => Ok(None),
-        }
+        let Some((own, other)) = schemas(alloc, "M", "M")? else {
+            return Ok(None);
+        };
+        Ok(Some(Types { own, other }))
     }
 }
 
