@@ -1,16 +1,15 @@
 //! The written schema of descriptor sets itself.
+use crate::sets::quoted;
 use kit_rows::{bytes_of, number_of};
 use pg_dyn::{DynError, Message, decode, encode, fits};
 use pg_fds::descriptor_schema;
-use pg_schema::{Schema, TypeId};
+use pg_schema::{Field, Schema, TypeId};
 use std::alloc::{AllocError, Global};
 
 /// The type of a whole set.
 const SET: TypeId = TypeId { index: 0 };
 
-/// The names of the schema's message types.
-pub(crate) fn names_of_types(alloc: Global) -> Result<String, AllocError> {
-    let schema = descriptor_schema(alloc)?;
+fn names_in(alloc: Global, schema: &Schema) -> Result<String, AllocError> {
     let mut names = String::new(alloc);
     for message_type in &schema.parts().types {
         names.push_str(&message_type.name)?;
@@ -19,11 +18,17 @@ pub(crate) fn names_of_types(alloc: Global) -> Result<String, AllocError> {
     Ok(names)
 }
 
+/// The names of the schema's message types.
+pub(crate) fn names_of_types(alloc: Global) -> Result<String, AllocError> {
+    names_in(alloc, &descriptor_schema(alloc)?)
+}
+
+fn field_of<'a>(schema: &'a Schema, message: &str, number: u32) -> Option<&'a Field> {
+    schema.field(schema.message(message)?, number)
+}
+
 fn name_of_field<'a>(schema: &'a Schema, message: &str, number: u32) -> &'a str {
-    let field = schema
-        .message(message)
-        .and_then(|type_id| schema.field(type_id, number));
-    match field {
+    match field_of(schema, message, number) {
         Some(field) => field.name.as_str(),
         None => "none",
     }
@@ -36,16 +41,20 @@ pub(crate) fn name_of(alloc: Global, words: &str) -> Result<String, AllocError> 
     String::from_str(alloc, name_of_field(&schema, message, number_of(number)))
 }
 
-/// The bytes of the set; of a set with unknown records, that it has some.
-fn written(alloc: Global, schema: &Schema, set: &Message) -> Result<String, DynError> {
-    if !fits(schema, set) || !set.unknown().is_empty() {
-        return Ok(String::from_str(alloc, "not known whole")?);
+/// The bytes of the set, where it has no unknown records.
+fn written(alloc: Global, schema: &Schema, set: &Message) -> Result<Option<Vec<u8>>, DynError> {
+    if fits(schema, set) && set.unknown().is_empty() {
+        Ok(Some(encode(alloc, schema, set)?))
+    } else {
+        Ok(None)
     }
-    let bytes = encode(alloc, schema, set)?;
-    Ok(format!(in alloc; "\"{}\"", bytes.escape_ascii())?)
 }
 
-fn read_and_written(alloc: Global, schema: &Schema, bytes: &[u8]) -> Result<String, DynError> {
+fn read_and_written(
+    alloc: Global,
+    schema: &Schema,
+    bytes: &[u8],
+) -> Result<Option<Vec<u8>>, DynError> {
     if !schema.has(SET) {
         return Err(DynError::NoSuchField);
     }
@@ -53,14 +62,23 @@ fn read_and_written(alloc: Global, schema: &Schema, bytes: &[u8]) -> Result<Stri
     written(alloc, schema, &set)
 }
 
-/// `decoded SET`: the bytes that are written of the set, once it is read as a message of the
-/// schema.
-pub(crate) fn decoded(alloc: Global, spelled: &str) -> Result<String, AllocError> {
-    let bytes = bytes_of(alloc, spelled)?;
-    let schema = descriptor_schema(alloc)?;
-    match read_and_written(alloc, &schema, &bytes) {
-        Ok(text) => Ok(text),
+/// What is shown of written bytes. They are lent, so that they are dropped only once.
+fn shown(alloc: Global, found: &Result<Option<Vec<u8>>, DynError>) -> Result<String, AllocError> {
+    match found {
+        Ok(Some(bytes)) => quoted(alloc, bytes),
+        Ok(None) => String::from_str(alloc, "not known whole"),
         Err(DynError::Memory) => Err(AllocError),
         Err(_) => String::from_str(alloc, "no message"),
     }
+}
+
+fn of_bytes(alloc: Global, bytes: &[u8]) -> Result<String, AllocError> {
+    let schema = descriptor_schema(alloc)?;
+    shown(alloc, &read_and_written(alloc, &schema, bytes))
+}
+
+/// `decoded SET`: the bytes that are written of the set, once it is read as a message of the
+/// schema.
+pub(crate) fn decoded(alloc: Global, spelled: &str) -> Result<String, AllocError> {
+    of_bytes(alloc, &bytes_of(alloc, spelled)?)
 }

@@ -34,14 +34,25 @@ fn read_and_written(alloc: Global, bytes: &[u8]) -> Result<Written, FdsError> {
     written(alloc, &schema)
 }
 
+/// The bytes as rows spell them, in quotes.
+pub(crate) fn quoted(alloc: Global, bytes: &[u8]) -> Result<String, AllocError> {
+    format!(in alloc; "\"{}\"", bytes.escape_ascii())
+}
+
 /// The bytes that are written, or the whole error.
-fn told(alloc: Global, found: Result<Written, FdsError>) -> Result<String, AllocError> {
+fn shown(alloc: Global, found: &Result<Written, FdsError>) -> Result<String, AllocError> {
     match found {
-        Ok((written, true)) => format!(in alloc; "\"{}\"", written.escape_ascii()),
+        Ok((written, true)) => quoted(alloc, written),
         Ok((_, false)) => String::from_str(alloc, "not the same again"),
         Err(FdsError::Memory) => Err(AllocError),
         Err(error) => format!(in alloc; "refused {error:?}"),
     }
+}
+
+/// What is shown of what was found, which is dropped here alone: that takes the prover long at each
+/// way out.
+fn told(alloc: Global, found: Result<Written, FdsError>) -> Result<String, AllocError> {
+    shown(alloc, &found)
 }
 
 /// What is written of the schema that the set states, or why it states none.

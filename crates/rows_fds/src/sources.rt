@@ -1,25 +1,36 @@
 //! Schemas of source files.
 use crate::sets::of_schema;
 use kit_rows::text_of;
-use pg_check::{CheckError, build};
-use pg_link::{LinkError, Linked, Listed, link};
+use pg_check::build;
+use pg_link::{Linked, Listed, Place, link};
 use std::alloc::{AllocError, Global};
+
+/// What is shown where there is no schema: a refusal has a position, but where memory was refused.
+fn refused(alloc: Global, place: Option<Place>, shown: &str) -> Result<String, AllocError> {
+    match place {
+        Some(_) => String::from_str(alloc, shown),
+        None => Err(AllocError),
+    }
+}
 
 fn of_linked(alloc: Global, linked: &Linked) -> Result<String, AllocError> {
     match build(alloc, linked) {
         Ok(schema) => of_schema(alloc, &schema),
-        Err(CheckError::Memory) => Err(AllocError),
-        Err(_) => String::from_str(alloc, "no schema"),
+        Err(error) => refused(alloc, error.place(), "no schema"),
+    }
+}
+
+fn of_bytes(alloc: Global, bytes: &[u8]) -> Result<String, AllocError> {
+    let mut files = Listed {
+        files: &[("m.proto", bytes)],
+    };
+    match link(alloc, &mut files, &["m.proto"]) {
+        Ok(linked) => of_linked(alloc, &linked),
+        Err(error) => refused(alloc, error.place(), "not linked"),
     }
 }
 
 /// `source FILE`: what is written of the schema of a file `m.proto`.
 pub(crate) fn of_file(alloc: Global, spelled: &str) -> Result<String, AllocError> {
-    let bytes = text_of(alloc, spelled)?;
-    let files = [("m.proto", bytes.as_slice())];
-    match link(alloc, &mut Listed { files: &files }, &["m.proto"]) {
-        Ok(linked) => of_linked(alloc, &linked),
-        Err(LinkError::Memory) => Err(AllocError),
-        Err(_) => String::from_str(alloc, "not linked"),
-    }
+    of_bytes(alloc, &text_of(alloc, spelled)?)
 }
