@@ -118,12 +118,20 @@ pub(crate) fn text(alloc: Global, graph: &Priced<'_>, words: &str) -> Result<Str
     }
 }
 
+/// Whether an error is `BadText`.
+fn is_bad_text(error: CertError) -> Result<bool, AllocError> {
+    match error {
+        CertError::Memory => Err(AllocError),
+        CertError::BadText => Ok(true),
+        _ => Ok(false),
+    }
+}
+
 /// Whether `from_text` refuses the bytes with `BadText`.
 fn is_bad(alloc: Global, graph: &Priced<'_>, bytes: &[u8]) -> Result<bool, AllocError> {
     match from_text(alloc, graph.old, graph.new, bytes) {
-        Err(CertError::Memory) => Err(AllocError),
-        Err(CertError::BadText) => Ok(true),
-        _ => Ok(false),
+        Ok(_) => Ok(false),
+        Err(error) => is_bad_text(error),
     }
 }
 

@@ -3,8 +3,19 @@ use crate::messages::spelled;
 use crate::shown::{Shown, list_or_none};
 use crate::spelled::{pair_of, table_of};
 use kit_rows::cut;
+use pg_cert::Bounds;
 use pg_pairs::{Choice, Pair, Priced, carry_cause, causes, cheapest, choice_child, options};
 use std::alloc::{AllocError, Global};
+
+fn listed(
+    alloc: Global,
+    graph: &Priced<'_>,
+    pair: Pair,
+    table: &Bounds,
+) -> Result<String, AllocError> {
+    let choices = options(alloc, graph, pair, table)?;
+    list_or_none(alloc, &choices)
+}
 
 /// `choices | OLD | NEW | PAIR | BOUNDS`: the choices of the pair.
 pub(crate) fn choices(
@@ -14,18 +25,20 @@ pub(crate) fn choices(
 ) -> Result<String, AllocError> {
     let (pair, bounds) = cut(words);
     match table_of(alloc, bounds)? {
-        Some(table) => list_or_none(alloc, &options(alloc, graph, pair_of(pair), &table)?),
+        Some(table) => listed(alloc, graph, pair_of(pair), &table),
         None => String::from_str(alloc, "no table"),
     }
+}
+
+fn round_child(alloc: Global, choice: &str, child: Pair) -> Result<String, AllocError> {
+    format!(in alloc; "{choice} child {} {}", child.old.index, child.new.index)
 }
 
 /// The choice, and its child where it has one.
 fn with_child(alloc: Global, choice: &Choice, child: Option<Pair>) -> Result<String, AllocError> {
     let choice = choice.shown(alloc)?;
     match child {
-        Some(Pair { old, new }) => {
-            format!(in alloc; "{choice} child {} {}", old.index, new.index)
-        }
+        Some(child) => round_child(alloc, &choice, child),
         None => Ok(choice),
     }
 }

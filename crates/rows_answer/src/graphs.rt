@@ -3,8 +3,9 @@ use crate::searches::shown_bounds;
 use crate::shown::list_or_none;
 use crate::spelled::pair_of;
 use kit_rows::cut;
+use pg_cert::Bounds;
 use pg_least::{bounds_from, settle_from};
-use pg_pairs::{Pair, Priced, Prices, children, reached_from, reached_pairs, returns};
+use pg_pairs::{Pair, Priced, Prices, Work, children, reached_from, reached_pairs, returns};
 use std::alloc::{AllocError, Global};
 
 /// `children | OLD | NEW | PAIR`: the children of the pair.
@@ -65,6 +66,18 @@ pub(crate) fn pairs_from(
         "reached_pairs" => reached_pairs(alloc, graph, pair),
         _ => graph.children(alloc, pair),
     };
+    listed(alloc, found)
+}
+
+/// The bounds that are found, and the work that they took.
+fn shown_found(
+    alloc: Global,
+    found: Result<(Bounds, Work), AllocError>,
+) -> Result<String, AllocError> {
+    shown_bounds(alloc, &found?)
+}
+
+fn listed(alloc: Global, found: Result<Vec<Pair>, AllocError>) -> Result<String, AllocError> {
     list_or_none(alloc, &found?)
 }
 
@@ -82,8 +95,8 @@ pub(crate) fn from_two(
         return String::from_str(alloc, "no such pair");
     }
     match call {
-        "reached_from" => list_or_none(alloc, &reached_from(alloc, graph, &roots)?),
-        "settle_from" => shown_bounds(alloc, &settle_from(alloc, graph, &roots)?),
-        _ => shown_bounds(alloc, &bounds_from(alloc, graph, &roots)?),
+        "reached_from" => listed(alloc, reached_from(alloc, graph, &roots)),
+        "settle_from" => shown_found(alloc, settle_from(alloc, graph, &roots)),
+        _ => shown_found(alloc, bounds_from(alloc, graph, &roots)),
     }
 }

@@ -11,6 +11,12 @@ use pg_schema::Schema;
 use std::alloc::AllocError;
 use std::io;
 
+/// Prints `Memory`, and the bounds that came back.
+fn say_back(rt: &HostRuntime, back: &[PairBound]) -> io::Result<()> {
+    let back = list(rt.alloc(), back)?;
+    println!(rt; "Memory {back}")
+}
+
 /// The table of the bounds; where it lacks memory, the table of those that came back.
 fn made(
     rt: &HostRuntime,
@@ -18,7 +24,7 @@ fn made(
 ) -> io::Result<Result<Bounds, (BoundsError, Vec<PairBound>)>> {
     match Bounds::new(rt.alloc(), bounds) {
         Err((BoundsError::Memory, back)) => {
-            println!(rt; "Memory {}", list(rt.alloc(), &back)?)?;
+            say_back(rt, &back)?;
             Ok(Bounds::new(rt.alloc(), back))
         }
         found => Ok(found),
