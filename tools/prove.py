@@ -273,15 +273,16 @@ def try_lent(room):
 
 
 def try_program(progress):
-    """Runs the testers of what `rt ci` built side by side, then the fuzzer, and then the examples. Prints what each said, in that order.
+    """Runs the testers of what `rt ci` built side by side, then the fuzzer, and then the examples. Prints what each said and took, in that order.
     Returns which passed, and what was passed over."""
     passed, over = [], []
 
     def ended(name, run):
         said = run.stdout.read()
-        passed.append(child_programs.wait(run)[0] == 0)
+        status, seconds = child_programs.wait(run)
+        passed.append(status == 0)
         progress.end(name)
-        print(said, end="", flush=True)
+        print(f"{said}{name}: {seconds:.0f} processor seconds", flush=True)
         over.extend(it for it in said.splitlines() if it.startswith("passed over"))
 
     testers = {it: child_programs.start([f"tools/{it}"], **HOW) for it in TESTERS}
