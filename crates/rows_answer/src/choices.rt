@@ -7,6 +7,7 @@ use pg_cert::Bounds;
 use pg_pairs::{Choice, Pair, Priced, carry_cause, causes, cheapest, choice_child, options};
 use std::alloc::{AllocError, Global};
 
+/// The choices of the pair by this table.
 fn listed(
     alloc: Global,
     graph: &Priced<'_>,
@@ -30,7 +31,8 @@ pub(crate) fn choices(
     }
 }
 
-fn round_child(alloc: Global, choice: &str, child: Pair) -> Result<String, AllocError> {
+/// The choice and its child.
+fn with_pair(alloc: Global, choice: &str, child: Pair) -> Result<String, AllocError> {
     format!(in alloc; "{choice} child {} {}", child.old.index, child.new.index)
 }
 
@@ -38,7 +40,7 @@ fn round_child(alloc: Global, choice: &str, child: Pair) -> Result<String, Alloc
 fn with_child(alloc: Global, choice: &Choice, child: Option<Pair>) -> Result<String, AllocError> {
     let choice = choice.shown(alloc)?;
     match child {
-        Some(child) => round_child(alloc, &choice, child),
+        Some(child) => with_pair(alloc, &choice, child),
         None => Ok(choice),
     }
 }

@@ -77,6 +77,7 @@ fn shown_found(
     shown_bounds(alloc, &found?)
 }
 
+/// The pairs that are found.
 fn listed(alloc: Global, found: Result<Vec<Pair>, AllocError>) -> Result<String, AllocError> {
     list_or_none(alloc, &found?)
 }

@@ -62,7 +62,7 @@ fn read_and_written(
     written(alloc, schema, &set)
 }
 
-/// What is shown of written bytes. They are lent, so that they are dropped only once.
+/// What is shown of the bytes that were written.
 fn shown(alloc: Global, found: &Result<Option<Vec<u8>>, DynError>) -> Result<String, AllocError> {
     match found {
         Ok(Some(bytes)) => quoted(alloc, bytes),

@@ -49,8 +49,7 @@ fn shown(alloc: Global, found: &Result<Written, FdsError>) -> Result<String, All
     }
 }
 
-/// What is shown of what was found, which is dropped here alone: that takes the prover long at each
-/// way out.
+/// What is shown of what was found. It is dropped here alone, since each drop takes the prover long.
 fn told(alloc: Global, found: Result<Written, FdsError>) -> Result<String, AllocError> {
     shown(alloc, &found)
 }
