@@ -178,6 +178,10 @@ class Started(unittest.TestCase):
         self.assertEqual(self.started("kill -KILL $$"), (-signal.SIGKILL, "", ""))
 
     def test_signals_that_are_passed_on(self):
+        if signal.getsignal(signal.SIGHUP) is signal.SIG_IGN:
+            # (what this process ignores, as below nohup, is ignored by all that it starts)
+            signal.signal(signal.SIGHUP, signal.SIG_DFL)
+            self.addCleanup(signal.signal, signal.SIGHUP, signal.SIG_IGN)
         for name in ("TERM", "HUP"):
             self.assertEqual(self.started("exec sleep 20", f"START & sleep 0.7; kill -{name} $!; wait $!; echo $?")[1],
                              f"{128 + getattr(signal, 'SIG' + name)}\n", name)
