@@ -49,7 +49,7 @@ fn shown(alloc: Global, found: &Result<Written, FdsError>) -> Result<String, All
     }
 }
 
-/// What is shown of what was found. It is dropped here alone, since each drop takes the prover long.
+/// What is shown of what was found. It is dropped here alone: each drop takes the prover long.
 fn told(alloc: Global, found: Result<Written, FdsError>) -> Result<String, AllocError> {
     shown(alloc, &found)
 }
