@@ -62,14 +62,15 @@ TESTERS = (
     "gate/test_wrong_copies.py",
     "gate/test_try_edits.py",
     "dist/test_launcher.py",
+    "dist/test_first_answer.py",
     "gate/test_gate.py",
     "gate/test_gate_parts.py",
     "gate/try_other_kit.py",
 )
-# What comes alone, each with its words: what compares the first answers of a checkout with the program's, and tells how long one takes; what
-# tries the program on random inputs, on all processors; and, last, the commands of the documents, of which some waits go by the clock.
+# What comes alone, each with its words: what tells how long a first answer of a checkout takes; what tries the program on random inputs, on
+# all processors; and, last, the commands of the documents, of which some waits go by the clock.
 ALONE = (
-    ("tools/dist/test_first_answer.py",),
+    ("tools/dist/test_first_page.py",),
     ("tools/fuzz/fuzz.py",),
     ("tools/docs/try_examples.sh", "crates/protogate/out/protogate"),
 )

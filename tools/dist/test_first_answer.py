@@ -4,28 +4,25 @@
 usage: tools/dist/test_first_answer.py [PROGRAM]    by default the program that was built; without `rt` on the path a part is passed over
 
 Most tests have a stand-in for `rt`, which runs PROGRAM as `rt try` runs what it compiled: in a new folder, without environment, beside
-copies of the files that it is given. What is wanted is what PROGRAM says where it is called itself. Two builds of the kit's `rt try` then
-answer the first page's example, and a call of each kind. They take some 450 processor seconds, and up to 3 GB of memory.
+copies of the files that it is given. What is wanted is what PROGRAM says where it is called itself. A build of the kit's `rt try` then
+answers a call of each kind. It takes some 225 processor seconds, and up to 3 GB of memory.
 """
 
 import contextlib
 import fcntl
 import os
 import re
-import resource
 import shutil
 import signal
 import subprocess
 import sys
-import tempfile
 import time
 import unittest
 
 sys.dont_write_bytecode = True
 from call_files import call_of, copied, imports_in  # noqa: E402
-from trial_checkout import TOP, Checkout, Compared, is_alive, read, stand_in, write  # noqa: E402
+from trial_checkout import FIRST_PAGE, TOP, Checkout, Compared, KitCheckout, is_alive, read, run_tests, stand_in, write  # noqa: E402
 
-README = "gate --old-dir examples/old --new-dir examples/new --old order.proto --new order.proto --type Order".split()
 HEAD = 'syntax = "proto3";\n'
 OLD, NEW = HEAD + "message M { bytes a = 1; }\n", HEAD + "message M { string a = 1; }\n"
 
@@ -34,7 +31,7 @@ class Answers(Compared):
     """Calls of each kind."""
 
     def test_the_first_page(self):
-        said = self.same(*README, at=TOP, status=1)
+        said = self.same(*FIRST_PAGE, at=TOP, status=1)
         self.assertEqual(said.splitlines()[:2], [b"breaks Order 3", b"witness 220180"])
 
     def test_help_and_bad_command_lines(self):
@@ -311,44 +308,8 @@ class Running(Checkout):
             self.assertEqual(os.listdir(f"{self.room}/temporary"), [])
 
 
-class Kit(unittest.TestCase):
+class Kit(KitCheckout):
     """What the kit's own `rt try` answers, beside what the program says."""
-
-    program = Checkout.program
-
-    @classmethod
-    def setUpClass(cls):
-        if not shutil.which("rt"):
-            raise unittest.SkipTest("there is no rt on the path")
-        room = tempfile.TemporaryDirectory()
-        cls.addClassCleanup(room.cleanup)
-        cls.room, cls.top = room.name, f"{room.name}/a checkout"
-        with open(f"{TOP}/crates.txt", encoding="utf-8") as file:
-            lines = [it for it in file if it.startswith(("pg_", "protogate"))]
-        for name in [it.partition(":")[0] for it in lines]:
-            for part in ("src", "specs", "proofs"):
-                shutil.copytree(f"{TOP}/crates/{name}/{part}", f"{cls.top}/crates/{name}/{part}")
-        write(f"{cls.top}/crates.txt", "".join(lines))
-        for it in ("HANDLES", "protogate", "tools/dist/first_answer.py", "tools/dist/call_files.py"):
-            write(f"{cls.top}/{it}", read(f"{TOP}/{it}"), 0o755)
-        shutil.copytree(f"{TOP}/examples", f"{cls.top}/examples")
-
-    def said(self, words):
-        """Returns the program's own status and output."""
-        how = {"cwd": self.top, "stdin": subprocess.DEVNULL, "stdout": subprocess.PIPE}
-        done = subprocess.run([self.program, *words], check=False, **how)
-        return done.returncode, done.stdout
-
-    def test_the_first_page(self):
-        begin, before = time.monotonic(), resource.getrusage(resource.RUSAGE_CHILDREN)
-        how = {"cwd": self.top, "stdin": subprocess.DEVNULL, "stdout": subprocess.PIPE, "stderr": subprocess.PIPE}
-        done = subprocess.run(["./protogate", *README], check=False, **how)
-        after = resource.getrusage(resource.RUSAGE_CHILDREN)
-        spent = after.ru_utime + after.ru_stime - before.ru_utime - before.ru_stime
-        print(f"a first answer took {time.monotonic() - begin:.0f} seconds by the clock, and {spent:.0f} processor seconds", flush=True)
-        self.assertEqual((done.returncode, done.stdout), self.said(README), done.stderr)
-        self.assertEqual(len(done.stderr.splitlines()), 2, done.stderr)
-        self.assertEqual(done.stdout.splitlines()[0], b"breaks Order 3")
 
     def calls(self):
         """Returns a call of each kind, and the status that it ends with."""
@@ -408,15 +369,5 @@ class Kit(unittest.TestCase):
             self.assertEqual((done.returncode, done.stdout), wanted[name], done.stderr)
 
 
-def main():
-    if len(sys.argv) > 1 and not sys.argv[1].startswith("-"):
-        Checkout.program = Kit.program = os.path.realpath(sys.argv.pop(1))
-    result = unittest.main(exit=False).result
-    failed = len(result.failures) + len(result.errors)
-    skipped = f", {len(result.skipped)} passed over" if result.skipped else ""
-    print(f"first answers: {result.testsRun - failed - len(result.skipped)} passed, {failed} failed{skipped}")
-    return int(not result.wasSuccessful())
-
-
 if __name__ == "__main__":
-    sys.exit(main())
+    sys.exit(run_tests("first answers"))
