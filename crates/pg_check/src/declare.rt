@@ -15,14 +15,14 @@ use pg_schema::{MAX_MESSAGE_TYPES, Parts};
 use std::alloc::{AllocError, Global};
 
 /// A rule that one of the files breaks; the file is given by its index among them.
-#[derive(Clone, Copy, Debug, PartialEq, Eq)]
+#[derive(Clone, Copy, PartialEq, Eq)]
 pub(crate) struct FileFault {
     pub file: usize,
     pub fault: Fault,
 }
 
 /// Why files declare no parts.
-#[derive(Clone, Copy, Debug, PartialEq, Eq)]
+#[derive(Clone, Copy, PartialEq, Eq)]
 pub(crate) enum Refusal {
     /// A growth was refused.
     Memory,

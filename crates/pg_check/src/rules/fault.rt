@@ -4,7 +4,7 @@ ghost use Rattle.std.specs.Prelude.{◌≡◌};
 ghost use Rattle.pg_check.specs.inner.Faults as spec;
 
 /// A rule of the proto3 language, in the order in which the rules of one declaration are reported.
-#[derive(Clone, Copy, Debug, PartialEq, Eq)]
+#[derive(Clone, Copy, PartialEq, Eq)]
 pub(crate) enum Rule {
     /// E401: a number is one that a field, a value or a reserved item may have.
     BadNumber,
@@ -61,7 +61,7 @@ impl Rule {
 }
 
 /// A rule that a file breaks, with offsets in the file.
-#[derive(Clone, Copy, Debug, PartialEq, Eq)]
+#[derive(Clone, Copy, PartialEq, Eq)]
 pub(crate) struct Fault {
     pub rule: Rule,
     /// Where the declaration is: its name, or the first token of an option or reserved item.

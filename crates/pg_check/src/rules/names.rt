@@ -8,14 +8,14 @@ use std::alloc::{AllocError, Global};
 use std::collections::BTreeSet;
 
 /// A name, and where it is declared.
-#[derive(Clone, Copy, Debug)]
+#[derive(Clone, Copy)]
 pub(crate) struct Called<'a> {
     pub text: &'a str,
     pub at: usize,
 }
 
 /// A JSON name, and where its field is declared.
-#[derive(Debug, Drop)]
+#[derive(Drop)]
 pub(crate) struct Titled {
     pub text: String,
     pub at: usize,

@@ -14,7 +14,7 @@ use std::alloc::{AllocError, Global};
 use std::collections::BTreeSet;
 
 /// A number, counted from -2^64, and where it is declared.
-#[derive(Clone, Copy, Debug)]
+#[derive(Clone, Copy)]
 pub(crate) struct Keyed {
     pub key: u128,
     pub at: usize,
@@ -22,7 +22,7 @@ pub(crate) struct Keyed {
 
 /// A reserved item: numbers from the first to the last, both of them too, counted from -2^64, and
 /// the byte of the item.
-#[derive(Clone, Copy, Debug)]
+#[derive(Clone, Copy)]
 pub(crate) struct Numbers {
     pub first: u128,
     pub last: u128,

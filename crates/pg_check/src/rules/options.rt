@@ -11,7 +11,7 @@ use pg_syntax::tree::{Dotted, Setting, Settings, Value};
 use std::alloc::{AllocError, Global};
 
 /// What options are stated of.
-#[derive(Clone, Copy, Debug, PartialEq, Eq)]
+#[derive(Clone, Copy, PartialEq, Eq)]
 pub(crate) enum Owner {
     File,
     Message,
@@ -24,7 +24,7 @@ pub(crate) enum Owner {
 }
 
 /// What values an option takes.
-#[derive(Clone, Copy, Debug, PartialEq, Eq)]
+#[derive(Clone, Copy, PartialEq, Eq)]
 pub(crate) enum Kind {
     /// `true` or `false`.
     Flag,
@@ -35,7 +35,7 @@ pub(crate) enum Kind {
 }
 
 /// An option that may be stated.
-#[derive(Clone, Copy, Debug, PartialEq, Eq)]
+#[derive(Clone, Copy, PartialEq, Eq)]
 pub(crate) struct Known {
     /// Its field number in descriptor.proto.
     pub number: u32,
@@ -43,7 +43,7 @@ pub(crate) struct Known {
 }
 
 /// An option as it is stated: the first identifier of its name, and where it is.
-#[derive(Clone, Copy, Debug)]
+#[derive(Clone, Copy)]
 pub(crate) struct Stated<'a> {
     pub name: &'a str,
     /// Whether there is such an option, and the value is of its kind.
