@@ -14,8 +14,7 @@ pub(crate) mod reading;
 
 use crate::Sources;
 use crate::error::{LinkError, place_in};
-use crate::walk::imports::imports_of;
-use crate::walk::reading::{asked_at, text_of, tree_of};
+use crate::walk::reading::{NewFile, read_new};
 use indexmap::{IndexMap, IndexSet};
 use pg_syntax::tree::FileTree;
 use std::alloc::Global;
@@ -139,12 +138,8 @@ fn visit<S: Sources>(
     if walk.files.contains_key(path) {
         return Ok(());
     }
-    let bytes = text_of(alloc, source, folder, path, asking)?;
-    if MAX_FILES <= walk.opened.len() + walk.files.len() {
-        return Err(LinkError::TooManyFiles(asked_at(alloc, asking, path)?));
-    }
-    let tree = tree_of(alloc, path, &bytes)?;
-    let lines = imports_of(alloc, &tree)?;
+    let others = walk.opened.len() + walk.files.len();
+    let NewFile { file, lines } = read_new(alloc, source, folder, path, asking, others)?;
     walk.begin(alloc, path)?;
     let mut before = IndexSet::new(alloc);
     let mut index = 0;
@@ -152,7 +147,7 @@ fn visit<S: Sources>(
         let line = &lines[index];
         let here = Asking {
             file: path,
-            text: &bytes,
+            text: &file.bytes,
             at: line.at,
         };
         let next = line.path.as_str();
@@ -160,7 +155,7 @@ fn visit<S: Sources>(
         visit(alloc, source, folder, next, Some(here), walk)?;
         index += 1;
     }
-    walk.end(alloc, path, SourceFile { bytes, tree })?;
+    walk.end(alloc, path, file)?;
     Ok(())
 }
 

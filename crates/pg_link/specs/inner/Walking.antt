@@ -1,7 +1,7 @@
 -- What is kept while imports are followed.
 use Rattle.std.specs.Global.{Global}
 use Rattle.std.specs.List.{All, Contains}
-use Rattle.std.specs.Prelude.{◌≡◌, ◌≤◌, ◌+◌, Bool, true, false, List, [], ◌∷◌, ◌++◌, map, reverse, length, Option, Some, None, String, string_bytes, ◌||◌}
+use Rattle.std.specs.Prelude.{◌≡◌, ◌≤◌, ◌+◌, ℕ, Bool, true, false, List, [], ◌∷◌, ◌++◌, map, reverse, length, Option, Some, None, IsTrue, String, string_bytes, ◌||◌}
 use Rattle.pg_lex.specs.Faults.{place_of as lex_place}
 use Rattle.pg_link.specs.declared.error.LinkError as errors
 use Rattle.pg_link.specs.declared.error.LinkError.TheVariants as error
@@ -13,7 +13,7 @@ use Rattle.pg_link.specs.names.Files.{Differ, InOrder, is_path_of, paths_of}
 use Rattle.pg_link.specs.names.Names.{Text}
 use Rattle.pg_link.specs.walk.PostOrder.{AreListed}
 use Rattle.pg_link.specs.Sources.{also}
-use Rattle.pg_link.specs.walk.Walk.{World, ImportsAt, Comes, Entry, files_in_order, outlines, IsEntry, IsPlace, syntax_place, HasNoTokens, HasNoTree}
+use Rattle.pg_link.specs.walk.Walk.{World, ImportsAt, Comes, Entry, files_in_order, outlines, IsAsked, IsEntry, IsPlace, IsReadFault, syntax_place, HasNoTokens, HasNoTree}
 
 -- files that were read, while the imports of these paths are followed
 pub record IsSound (w : World) (open_paths : List Text) (entries : List Entry) : Type 0 where
@@ -56,6 +56,16 @@ IsTextFault path text (error.Lex e place) = IsPlace place path text (lex_place e
 IsTextFault path text (error.Syntax e place) = IsPlace place path text (syntax_place e) × HasNoTree e text
 IsTextFault path text error.Memory = Unit {0}
 IsTextFault path text _ = ⊥
+
+-- a fault of reading a path below a folder, where the source may give and lack so, and so many others are there
+abbrev pub IsNewFault : (Text → Text → Bool) → (Text → Bool) → Text → ℕ → Option askings.Asking → Text → errors.LinkError → Type 0
+IsNewFault give lack folder others asking path (error.TooManyFiles place) = IsAsked place asking path × (1024 ≤ others)
+    × ((text : Text) × IsTrue (give (path_below folder path) text))
+IsNewFault give lack folder others asking path (error.Lex e place) =
+    (text : Text) × IsTrue (give (path_below folder path) text) × IsTextFault path text (error.Lex e place)
+IsNewFault give lack folder others asking path (error.Syntax e place) =
+    (text : Text) × IsTrue (give (path_below folder path) text) × IsTextFault path text (error.Syntax e place)
+IsNewFault give lack folder others asking path e = IsReadFault lack folder asking path e
 
 -- a fault of an import of this path, after imports of these
 abbrev pub IsImportFault : List Text → List Text → askings.Asking → Text → errors.LinkError → Type 0

@@ -1,22 +1,32 @@
 //! The bytes and the tree of a file, with the positions of the faults in them.
-ghost use Rattle.std.specs.Prelude.{◌≡◌, ◌≤◌, ◌+◌, ◌∷◌, [], IfErr, IfOk, IsTrue, OnOk, length};
+ghost use Rattle.std.specs.Prelude.{◌≡◌, ◌≤◌, ◌<◌, ◌+◌, ◌∷◌, [], IfErr, IfOk, IsTrue, OnOk, length, map};
 ghost use Rattle.pg_link.specs.walk.FolderPath.{path_below};
 ghost use Rattle.pg_lex.specs.Lexes.{lexes, max_len};
 ghost use Rattle.pg_lex.specs.Symbol.{placed};
 ghost use Rattle.pg_lex.specs.Faults as lex;
+ghost use Rattle.pg_link.specs.names.Outline.{file_imports};
 ghost use Rattle.pg_link.specs.walk.Reads.{Reads};
 ghost use Rattle.pg_link.specs.Sources.{also, AtMostOne};
 ghost use Rattle.pg_link.specs.walk.Walk as spec;
+ghost use Rattle.pg_link.specs.inner.Made.{line_of};
 ghost use Rattle.pg_link.specs.inner.Walking as walking;
 
 use crate::error::{LinkError, Place, place_in};
-use crate::walk::Asking;
 use crate::walk::folder_path::read_below;
+use crate::walk::imports::{ImportLine, imports_of};
+use crate::walk::{Asking, MAX_FILES, SourceFile};
 use crate::{SourceError, Sources};
 use pg_lex::{LexError, Token};
 use pg_syntax::SyntaxError;
 use pg_syntax::tree::FileTree;
 use std::alloc::{AllocError, Global};
+
+/// A file whose imports aren't followed yet, and those.
+#[derive(Debug, Drop)]
+pub(crate) struct NewFile {
+    pub file: SourceFile,
+    pub lines: Vec<ImportLine>,
+}
 
 /// The offset of a lexical fault.
 fn lex_place(error: LexError) -> usize
@@ -85,11 +95,7 @@ pub(crate) fn tree_of(alloc: Global, path: &str, text: &[u8]) -> Result<FileTree
 
 /// The position at which a path is asked for: the literal of the import, or the file as a whole
 /// where it is a root.
-pub(crate) fn asked_at(
-    alloc: Global,
-    asking: Option<Asking<'_>>,
-    path: &str,
-) -> Result<Place, AllocError>
+fn asked_at(alloc: Global, asking: Option<Asking<'_>>, path: &str) -> Result<Place, AllocError>
     ensures { IfOk result (λ place. spec.IsAsked place asking.entry path.now) }
 {
     match asking {
@@ -104,7 +110,7 @@ pub(crate) fn asked_at(
 
 /// The bytes of a file. Where the source fails, the position is the file as a whole, whoever
 /// asks for it.
-pub(crate) fn text_of<S: Sources>(
+fn text_of<S: Sources>(
     alloc: Global,
     source: &mut S,
     folder: &str,
@@ -134,6 +140,38 @@ pub(crate) fn text_of<S: Sources>(
         })),
         Err(SourceError::Memory) => Err(LinkError::Memory),
     }
+}
+
+/// A file with its tree and its imports. So many others are read already, or open.
+pub(crate) fn read_new<S: Sources>(
+    alloc: Global,
+    source: &mut S,
+    folder: &str,
+    path: &str,
+    asking: Option<Asking<'_>>,
+    others: usize,
+) -> Result<NewFile, LinkError>
+    ensures given { IfOk result (λ new. IsTrue
+        (S.may_give source.old (path_below folder.now path.now) new.file.bytes.items)) }
+    ensures parsed { IfOk result (λ new. spec.IsParsed new.file.bytes.items new.file.tree) }
+    ensures lines { IfOk result (λ new. map line_of new.lines.items ≡ file_imports new.file.tree) }
+    ensures room { OnOk result (others < 1024) }
+    ensures fault { IfErr result (walking.IsNewFault (S.may_give source.old)
+        (S.may_lack source.old) folder.now others asking.entry path.now) }
+    ensures asked { OnOk result (S.reads source.new
+        ≡ also (path_below folder.now path.now ∷ []) (S.reads source.old)) }
+    ensures asked_once { AtMostOne (path_below folder.now path.now) (S.reads source.old)
+        (S.reads source.new) }
+    ensures reads { Reads S.Sources source.old source.new (spec.failures_of result) }
+{
+    let bytes = text_of(alloc, source, folder, path, asking)?;
+    if MAX_FILES <= others {
+        return Err(LinkError::TooManyFiles(asked_at(alloc, asking, path)?));
+    }
+    let tree = tree_of(alloc, path, &bytes)?;
+    let lines = imports_of(alloc, &tree)?;
+    let file = SourceFile { bytes, tree };
+    Ok(NewFile { file, lines })
 }
 
 /// The bytes of the file `FOLDER/PATH`, or of `PATH` where the folder is `.`, as `link_below` reads

@@ -1,5 +1,5 @@
 -- A walk over imports, step by step.
-use Rattle.std.proofs.Common.{◌≡◌, ◌∙◌, ℕ, ◌≤◌, ◌<◌, ◌+◌, Bool, true, false, ◌||◌, List, [], ◌∷◌, ◌++◌, Some, None, Option, length, map, reverse, take, drop, refl, sym, ap, subst, String, string_bytes, slice_index_or, All, length-append, arith, drop-cons, add-one, true≢false, rules}
+use Rattle.std.proofs.Common.{◌≡◌, ◌∙◌, ℕ, ◌≤◌, ◌<◌, ◌+◌, Bool, true, false, ◌||◌, List, [], ◌∷◌, ◌++◌, Some, None, Option, length, map, reverse, take, drop, refl, sym, ap, subst, String, string_bytes, IsTrue, slice_index_or, All, length-append, arith, drop-cons, add-one, true≢false, rules}
 use Rattle.std.proofs.lemmas.Bool.{or_from, or_parts}
 use Rattle.std.proofs.lemmas.List.{map-append, reverse-append, take-append-drop, length-reverse, length-map, get_or-map}
 use Rattle.std.proofs.lemmas.List.Elements.{All-push, All-append, All-map, All-cons, All-head, All-tail}
@@ -16,13 +16,14 @@ use Rattle.pg_link.specs.declared.walk.imports.ImportLine as lines
 use Rattle.pg_link.specs.declared.walk.Asking as askings
 use Rattle.pg_link.specs.declared.walk.SourceFile as kept
 use Rattle.pg_link.specs.declared.walk.Walk as walks
+use Rattle.pg_link.specs.walk.FolderPath.{path_below}
 use Rattle.pg_link.specs.names.Files.{File, Differ, InOrder, is_path_of, paths_of, import_paths}
 use Rattle.pg_link.specs.inner.Made.{line_of}
 use Rattle.pg_link.specs.names.Names.{texts, Text}
 use Rattle.pg_link.specs.names.Outline.{file_imports}
 use Rattle.pg_link.specs.walk.PostOrder.{IsPostOrder}
 use Rattle.pg_link.specs.walk.Walk.{World, Gives, MayBe, ImportsAt, Comes, Reached, MayLead, Stays, Onwards, Entry, IsEntry, outline, outlines, files_in_order, IsAsked, IsAskedAt, IsPlace, IsReadFault, IsLinked, ComesTo, Refuses}
-use Rattle.pg_link.specs.inner.Walking.{entries, open_paths, IsSound, Follows, Asks, IsTextFault, IsImportFault}
+use Rattle.pg_link.specs.inner.Walking.{entries, open_paths, IsSound, Follows, Asks, IsNewFault, IsTextFault, IsImportFault}
 use Rattle.pg_link.proofs.lemmas.walk.OrderLaws.{no_cycle}
 use Rattle.pg_link.proofs.lemmas.names.SameBytes.{same_text, differ_turned}
 
@@ -139,6 +140,27 @@ beyond w ps es a path text place sound asks open_none none given many at =
         each = All-append (IsThere w) ps (paths_of (outlines es)) (opened_there w ps path (comes_of w ps a path asks)) (entries_there w es sound.each);
       },
     )
+
+-- ---- a file that is new
+
+pub read_fault : (give : Text → Text → Bool) (lack : Text → Bool) (folder : Text) (others : ℕ) (a : Option askings.Asking) (path : Text) (e : errors.LinkError)
+    → IsReadFault lack folder a path e → IsNewFault give lack folder others a path e
+read_fault give lack folder others a path e fault = grind arith
+
+pub text_fault : (give : Text → Text → Bool) (lack : Text → Bool) (folder : Text) (others : ℕ) (a : Option askings.Asking) (path text : Text) (e : errors.LinkError)
+    → IsTrue (give (path_below folder path) text) → IsTextFault path text e → IsNewFault give lack folder others a path e
+text_fault give lack folder others a path text e given fault = grind arith
+
+pub new_refused : (w : World) (ps : List Text) (es : List Entry) (a : Option askings.Asking) (path : Text) (others : ℕ) (e : errors.LinkError) → IsSound w ps es → Asks w ps a path
+    → is_path_of ps path ≡ false → is_path_of (paths_of (outlines es)) path ≡ false → others ≡ length ps + length es
+    → IsNewFault w.may_give w.may_lack w.folder others a path e → Refuses w e
+new_refused w ps es a path others (error.TooManyFiles place) sound asks open_none none count fault =
+    beyond w ps es a path fault.2.0 place sound asks open_none none fault.2.1 (subst (λ n. 1024 ≤ n) count fault.1) fault.0
+new_refused w ps es a path others (error.Lex e place) sound asks open_none none count fault =
+    text_refused w path fault.0 (error.Lex e place) fault.1 (reached_of w ps a path asks) fault.2
+new_refused w ps es a path others (error.Syntax e place) sound asks open_none none count fault =
+    text_refused w path fault.0 (error.Syntax e place) fault.1 (reached_of w ps a path asks) fault.2
+new_refused w ps es a path others e sound asks open_none none count fault = read_refused w ps a path e asks fault
 
 -- ---- the imports of a file, one by one
 

@@ -1,4 +1,4 @@
-use Rattle.std.proofs.Common.{◌≡◌, ◌∙◌, ◌+◌, ◌<◌, ◌≤◌, ℕ, List, [], ◌∷◌, ◌++◌, Some, true, false, sym, ap, subst, take, map, length, refl, string_bytes, arith, slice_index_or}
+use Rattle.std.proofs.Common.{◌≡◌, ◌∙◌, ◌+◌, ◌<◌, ℕ, List, [], ◌∷◌, ◌++◌, Some, true, false, sym, ap, subst, take, map, length, refl, string_bytes, arith, slice_index_or}
 use Rattle.std.proofs.lemmas.List.{map_more, take_all}
 use Rattle.std.proofs.lemmas.Result.{err_from_is_err_and}
 use Rattle.pg_link.specs.declared.walk.imports.ImportLine as lines
@@ -6,14 +6,14 @@ use Rattle.pg_link.specs.declared.walk.Asking as askings
 use Rattle.pg_link.specs.declared.walk.SourceFile as kept
 use Rattle.pg_link.specs.names.Files.{Differ, is_path_of}
 use Rattle.pg_link.specs.walk.Reads.{world_of}
-use Rattle.pg_link.specs.walk.Walk.{World, IsParsed, Refuses}
-use Rattle.pg_link.specs.inner.Walking.{IsSound, Follows, IsTextFault, IsImportFault, VisitLists, entries, listed_paths, open_paths, has_path}
+use Rattle.pg_link.specs.walk.Walk.{World, Refuses}
+use Rattle.pg_link.specs.inner.Walking.{IsSound, Follows, IsImportFault, VisitLists, entries, listed_paths, open_paths, has_path}
 use Rattle.pg_link.proofs.lemmas.walk.LeadLaws.{all_listed}
 use Rattle.pg_link.proofs.lemmas.walk.OrderLaws.{apart_more}
 use Rattle.pg_link.proofs.lemmas.walk.PathLaws.{has_found}
 use Rattle.pg_link.proofs.lemmas.walk.PostOrderLaws.{both_extend, file_listed, grown, listed_before, next_listed, none_listed, same_extends}
 use Rattle.pg_link.proofs.lemmas.walk.ReadLaws.{at_most_new, first_way, next_way, none_new, none_read, not_begun, one_new, reads_on, same_world, way_done, way_refused}
-use Rattle.pg_link.proofs.lemmas.walk.WalkLaws.{beyond, comes_of, follows_next, import_refused, line_path, next_import, not_read, one_more, open_count, open_one, reached_of, read_refused, take_none, text_refused}
+use Rattle.pg_link.proofs.lemmas.walk.WalkLaws.{comes_of, follows_next, import_refused, line_path, new_refused, next_import, not_read, one_more, open_count, open_one, reached_of, take_none}
 use Rattle.pg_link.proofs.walk.+visit.Goals as goal
 
 pub returns-then-contains_key-clause-reads_new : goal.returns-then-contains_key-clause-reads_new
@@ -22,44 +22,29 @@ returns-then-contains_key-clause-reads_new g t c = none_new c.args.folder.now _ 
 pub returns-then-contains_key-clause-reads_all : goal.returns-then-contains_key-clause-reads_all
 returns-then-contains_key-clause-reads_all g t c = none_read c.args.folder.now _ _ c.args.walk.now refl
 
-pub returns-in_err-bytes-clause-reads_new : goal.returns-in_err-bytes-clause-reads_new
-returns-in_err-bytes-clause-reads_new g t c =
+pub returns-in_err-file-clause-reads_new : goal.returns-in_err-file-clause-reads_new
+returns-in_err-file-clause-reads_new g t c =
     let none : has_path c.args.walk.now c.args.path.now ≡ false = has_found c.args.walk.now c.args.path.now ∙ (sym c.contains_key.ensures ∙ c.if-contains_key.false) in
-    at_most_new c.args.folder.now _ _ c.args.walk.now c.args.path.now (not_begun c.args.walk.now c.args.path.now c.requires.1.1.1 none) c.in_err-bytes.ensures.asked_once
+    at_most_new c.args.folder.now _ _ c.args.walk.now c.args.path.now (not_begun c.args.walk.now c.args.path.now c.requires.1.1.1 none) c.in_err-file.ensures.asked_once
 
-pub returns-in_err-bytes-clause-refused : goal.returns-in_err-bytes-clause-refused
-returns-in_err-bytes-clause-refused g t c =
-    let w = λ (roots : List (List ℕ)). world_of g.S.Sources c.args.source.now c.args.folder.now roots in
-    let p = err_from_is_err_and c.from_residual.result c.from_residual.ensures.1 in
-    rw (p.1, p.2) (λ roots f. read_refused (w roots) (open_paths c.args.walk.now) c.args.asking c.args.path.now c.in_err-bytes.field-0.0 f.asks c.in_err-bytes.ensures.fault)
-
-pub returns-then-len-ge-MAX_FILES-clause-refused : goal.returns-then-len-ge-MAX_FILES-clause-refused
-returns-then-len-ge-MAX_FILES-clause-refused g t c =
+pub returns-in_err-file-clause-refused : goal.returns-in_err-file-clause-refused
+returns-in_err-file-clause-refused g t c =
     let walk = c.args.walk.now in
     let w = λ (roots : List (List ℕ)). world_of g.S.Sources c.args.source.now c.args.folder.now roots in
+    let p = err_from_is_err_and c.from_residual.result c.from_residual.ensures.1 in
     let none : has_path walk c.args.path.now ≡ false = has_found walk c.args.path.now ∙ (sym c.contains_key.ensures ∙ c.if-contains_key.false) in
-    let many : 1024 ≤ length (open_paths walk) + length (entries walk) = omega (arith, open_count walk, c.len.ensures.len, c.len-2.ensures.len) in
-    λ roots f. beyond (w roots) (open_paths walk) (entries walk) c.args.asking c.args.path.now c.in_ok-bytes.bytes.items c.in_ok-asked_at.field-0 f.is_sound f.asks
-    c.requires.1.1.1 none c.in_ok-bytes.ensures.given many c.in_ok-asked_at.ensures
-
-pub returns-in_err-tree-clause-refused : goal.returns-in_err-tree-clause-refused
-returns-in_err-tree-clause-refused g t c =
-    let w = λ (roots : List (List ℕ)). world_of g.S.Sources c.args.source.now c.args.folder.now roots in
-    let p = err_from_is_err_and c.from_residual-in_err-tree.result c.from_residual-in_err-tree.ensures.1 in
-    let fault : IsTextFault c.args.path.now c.in_ok-bytes.bytes.items c.in_err-tree.field-0.0 =
-    subst (λ (t : List ℕ). IsTextFault c.args.path.now t c.in_err-tree.field-0.0) c.deref.ensures.value c.in_err-tree.ensures.fault in
-    rw (p.1, p.2) (λ roots f. text_refused (w roots) c.args.path.now c.in_ok-bytes.bytes.items c.in_err-tree.field-0.0 c.in_ok-bytes.ensures.given
-    (reached_of (w roots) (open_paths c.args.walk.now) c.args.asking c.args.path.now f.asks) fault)
+    rw (p.1, p.2) (λ roots f. new_refused (w roots) (open_paths walk) (entries walk) c.args.asking c.args.path.now _ c.in_err-file.field-0.0 f.is_sound f.asks
+    c.requires.1.1.1 none (omega (arith, open_count walk, c.len.ensures.len, c.len-2.ensures.len)) c.in_err-file.ensures.fault)
 
 pub lines-init : goal.lines-init
 lines-init g t c =
     let walk = c.args.walk.now in
     let new = c.begin.new.self in
     let path : List ℕ = c.args.path.now in
-    let ls : List lines.ImportLine = c.in_ok-lines.lines.items in
+    let ls : List lines.ImportLine = c.in_ok-file.field-0.lines.items in
     let w = λ (roots : List (List ℕ)). world_of g.S.Sources c.args.source.now c.args.folder.now roots in
     let none : has_path walk path ≡ false = has_found walk path ∙ (sym c.contains_key.ensures ∙ c.if-contains_key.false) in
-    let room : length (open_paths walk) + length (entries walk) < 1024 = omega (arith, open_count walk, c.len.ensures.len, c.len-2.ensures.len) in
+    let room : length (open_paths walk) + length (entries walk) < 1024 = omega (arith, open_count walk, c.len.ensures.len, c.len-2.ensures.len, c.in_ok-file.ensures.room) in
     let same : entries new ≡ entries walk = c.in_ok-begin.ensures.same in
     let opened : open_paths new ≡ path ∷ open_paths walk = c.in_ok-begin.ensures.opened in
     record {
@@ -69,8 +54,8 @@ lines-init g t c =
       differ = subst Differ (ap (map line_path) (sym (take_none ls))) tt;
       extends = same_extends walk new same;
       lists = none_listed walk new (map line_path (take 0 ls)) same (ap (map line_path) (take_none ls));
-      asked = first_way c.args.folder.now _ _ walk new path c.requires.1.1.1 none c.in_ok-bytes.ensures.asked same;
-      reads = c.in_ok-bytes.ensures.reads;
+      asked = first_way c.args.folder.now _ _ walk new path c.requires.1.1.1 none c.in_ok-file.ensures.asked same;
+      reads = c.in_ok-file.ensures.reads;
       rises = omega (arith, ap length same, ap length opened);
       room = room;
     }
@@ -81,18 +66,17 @@ returns-in_err-check-clause-refused g t c =
     let path : List ℕ = c.args.path.now in
     let inv = c.lines.invariant in
     let line : lines.ImportLine = c.index-line.result.now in
-    let here : askings.Asking = record { file = c.args.path; text = c.deref-in-lines.result; at = line.at } in
+    let here : askings.Asking = record { file = c.args.path; text = c.deref.result; at = line.at } in
     let next : List ℕ = c.as_str-next.result.now in
     let before : List (List ℕ) = map string_bytes c.lines.before.keys in
     let e = c.in_err-check.field-0.0 in
     let w = λ (roots : List (List ℕ)). world_of g.S.Sources c.args.source.now c.args.folder.now roots in
     let p = err_from_is_err_and c.from_residual-in_err-check.result c.from_residual-in_err-check.ensures.1 in
-    let parsed : IsParsed c.in_ok-bytes.bytes.items c.in_ok-tree.tree = subst (λ (text : List ℕ). IsParsed text c.in_ok-tree.tree) c.deref.ensures.value c.in_ok-tree.ensures.parsed in
     let fault : IsImportFault (path ∷ open_paths walk) before here next e =
     subst (λ (ps : List (List ℕ)). IsImportFault ps before here next e) inv.opened c.in_err-check.ensures.fault in
     rw (p.1, p.2) (λ roots f.
-    let i = next_import (w roots) path c.in_ok-bytes.bytes.items here.text.now next c.in_ok-tree.tree c.in_ok-lines.lines.items c.lines.index line
-    record { is_given = c.in_ok-bytes.ensures.given; is_parsed = parsed } c.deref-in-lines.ensures.value c.as_str-next.ensures.value c.in_ok-lines.ensures
+    let i = next_import (w roots) path c.in_ok-file.field-0.file.bytes.items here.text.now next c.in_ok-file.field-0.file.tree c.in_ok-file.field-0.lines.items c.lines.index line
+    record { is_given = c.in_ok-file.ensures.given; is_parsed = c.in_ok-file.ensures.parsed } c.deref.ensures.value c.as_str-next.ensures.value c.in_ok-file.ensures.lines
     (omega arith) c.index-line.ensures in
     import_refused (w roots) (open_paths walk) path here next before e refl i.0 (comes_of (w roots) (open_paths walk) c.args.asking path f.asks)
     (i.1 ∙ sym inv.before_is) fault)
@@ -103,16 +87,15 @@ returns-in_err-visit-clause-refused g t c =
     let path : List ℕ = c.args.path.now in
     let inv = c.lines.invariant in
     let line : lines.ImportLine = c.index-line.result.now in
-    let here : askings.Asking = record { file = c.args.path; text = c.deref-in-lines.result; at = line.at } in
+    let here : askings.Asking = record { file = c.args.path; text = c.deref.result; at = line.at } in
     let next : List ℕ = c.as_str-next.result.now in
     let e = c.in_err-visit.field-0.0 in
     let w = λ (roots : List (List ℕ)). world_of g.S.Sources c.args.source.now c.args.folder.now roots in
     let p = err_from_is_err_and c.from_residual-in_err-visit.result c.from_residual-in_err-visit.ensures.1 in
-    let parsed : IsParsed c.in_ok-bytes.bytes.items c.in_ok-tree.tree = subst (λ (text : List ℕ). IsParsed text c.in_ok-tree.tree) c.deref.ensures.value c.in_ok-tree.ensures.parsed in
     rw (p.1, p.2) (λ roots f.
     let now = same_world g.S.Sources c.args.source.now c.lines.source 0 c.args.folder.now roots inv.reads in
-    let i = next_import (w roots) path c.in_ok-bytes.bytes.items here.text.now next c.in_ok-tree.tree c.in_ok-lines.lines.items c.lines.index line
-    record { is_given = c.in_ok-bytes.ensures.given; is_parsed = parsed } c.deref-in-lines.ensures.value c.as_str-next.ensures.value c.in_ok-lines.ensures
+    let i = next_import (w roots) path c.in_ok-file.field-0.file.bytes.items here.text.now next c.in_ok-file.field-0.file.tree c.in_ok-file.field-0.lines.items c.lines.index line
+    record { is_given = c.in_ok-file.ensures.given; is_parsed = c.in_ok-file.ensures.parsed } c.deref.ensures.value c.as_str-next.ensures.value c.in_ok-file.ensures.lines
     (omega arith) c.index-line.ensures in
     let follows = follows_next (w roots) c.lines.walk path (open_paths walk) here next inv.opened (inv.sound roots f) refl i.0
     (comes_of (w roots) (open_paths walk) c.args.asking path f.asks) in
@@ -126,12 +109,11 @@ lines-preserved g t c =
     let inv = c.lines.invariant in
     let after = c.in_ok-visit.ensures in
     let new = c.visit.new.walk in
-    let ls : List lines.ImportLine = c.in_ok-lines.lines.items in
+    let ls : List lines.ImportLine = c.in_ok-file.field-0.lines.items in
     let line : lines.ImportLine = c.index-line.result.now in
-    let here : askings.Asking = record { file = c.args.path; text = c.deref-in-lines.result; at = line.at } in
+    let here : askings.Asking = record { file = c.args.path; text = c.deref.result; at = line.at } in
     let next : List ℕ = c.as_str-next.result.now in
     let w = λ (roots : List (List ℕ)). world_of g.S.Sources c.args.source.now c.args.folder.now roots in
-    let parsed : IsParsed c.in_ok-bytes.bytes.items c.in_ok-tree.tree = subst (λ (text : List ℕ). IsParsed text c.in_ok-tree.tree) c.deref.ensures.value c.in_ok-tree.ensures.parsed in
     let within : c.lines.index < length ls = omega arith in
     let at : next ≡ line_path (slice_index_or ls c.lines.index line) = c.as_str-next.ensures.value ∙ ap line_path c.index-line.ensures in
     let more : map line_path (take (c.lines.index + 1) ls) ≡ map line_path (take c.lines.index ls) ++ next ∷ [] =
@@ -141,8 +123,8 @@ lines-preserved g t c =
     record {
       sound = λ roots f.
           let now = same_world g.S.Sources c.args.source.now c.lines.source 0 c.args.folder.now roots inv.reads in
-          let i = next_import (w roots) path c.in_ok-bytes.bytes.items here.text.now next c.in_ok-tree.tree ls c.lines.index line
-          record { is_given = c.in_ok-bytes.ensures.given; is_parsed = parsed } c.deref-in-lines.ensures.value c.as_str-next.ensures.value c.in_ok-lines.ensures
+          let i = next_import (w roots) path c.in_ok-file.field-0.file.bytes.items here.text.now next c.in_ok-file.field-0.file.tree ls c.lines.index line
+          record { is_given = c.in_ok-file.ensures.given; is_parsed = c.in_ok-file.ensures.parsed } c.deref.ensures.value c.as_str-next.ensures.value c.in_ok-file.ensures.lines
           within c.index-line.ensures in
           let follows = follows_next (w roots) c.lines.walk path (open_paths walk) here next inv.opened (inv.sound roots f) refl i.0
           (comes_of (w roots) (open_paths walk) c.args.asking path f.asks) in
@@ -168,15 +150,14 @@ returns-clause-sound g t c = λ roots f.
     let inv = c.lines.invariant in
     let mid = c.lines.walk in
     let new = c.end.new.self in
-    let ls : List lines.ImportLine = c.in_ok-lines.lines.items in
-    let file : kept.SourceFile = record { bytes = c.in_ok-bytes.bytes; tree = c.in_ok-tree.tree } in
+    let ls : List lines.ImportLine = c.in_ok-file.field-0.lines.items in
+    let file : kept.SourceFile = c.in_ok-file.field-0.file in
     let w = world_of g.S.Sources c.args.source.now c.args.folder.now roots in
-    let parsed : IsParsed c.in_ok-bytes.bytes.items c.in_ok-tree.tree = subst (λ (text : List ℕ). IsParsed text c.in_ok-tree.tree) c.deref.ensures.value c.in_ok-tree.ensures.parsed in
     let sound : IsSound w (path ∷ open_paths walk) (entries mid) = inv.sound roots f in
     let last = c.in_ok-end.ensures.comes (not_read w path (open_paths walk) (entries mid) sound) in
     let whole : take c.lines.index ls ≡ ls = take_all c.lines.index ls (omega arith) in
     one_more w path (open_paths walk) (entries mid) (entries new) last.0 file ls sound last.1 last.2
-    record { is_given = c.in_ok-bytes.ensures.given; is_parsed = parsed } (reached_of w (open_paths walk) c.args.asking path f.asks) c.in_ok-lines.ensures
+    record { is_given = c.in_ok-file.ensures.given; is_parsed = c.in_ok-file.ensures.parsed } (reached_of w (open_paths walk) c.args.asking path f.asks) c.in_ok-file.ensures.lines
     (all_listed mid (listed_paths walk) (map line_path ls) (subst (λ (xs : List lines.ImportLine). VisitLists (listed_paths walk) (map line_path xs) mid) whole inv.lists))
     (subst (λ (xs : List lines.ImportLine). Differ (map line_path xs)) whole inv.differ)
 
@@ -189,39 +170,19 @@ returns-clause-reads_all g t c =
     let path : List ℕ = c.args.path.now in
     let inv = c.lines.invariant in
     let last = c.in_ok-end.ensures.comes inv.asked.is_unread in
-    let file : kept.SourceFile = record { bytes = c.in_ok-bytes.bytes; tree = c.in_ok-tree.tree } in
+    let file : kept.SourceFile = c.in_ok-file.field-0.file in
     way_done c.args.folder.now _ _ walk c.lines.walk c.end.new.self path last.0 file inv.asked last.1 last.2
-
-pub returns-in_err-asked_at-clause-reads_new : goal.returns-in_err-asked_at-clause-reads_new
-returns-in_err-asked_at-clause-reads_new g t c =
-    let none : has_path c.args.walk.now c.args.path.now ≡ false = has_found c.args.walk.now c.args.path.now ∙ (sym c.contains_key.ensures ∙ c.if-contains_key.false) in
-    one_new c.args.folder.now _ _ c.args.walk.now c.args.path.now (not_begun c.args.walk.now c.args.path.now c.requires.1.1.1 none) c.in_ok-bytes.ensures.asked
-
-pub returns-then-len-ge-MAX_FILES-clause-reads_new : goal.returns-then-len-ge-MAX_FILES-clause-reads_new
-returns-then-len-ge-MAX_FILES-clause-reads_new g t c =
-    let none : has_path c.args.walk.now c.args.path.now ≡ false = has_found c.args.walk.now c.args.path.now ∙ (sym c.contains_key.ensures ∙ c.if-contains_key.false) in
-    one_new c.args.folder.now _ _ c.args.walk.now c.args.path.now (not_begun c.args.walk.now c.args.path.now c.requires.1.1.1 none) c.in_ok-bytes.ensures.asked
-
-pub returns-in_err-tree-clause-reads_new : goal.returns-in_err-tree-clause-reads_new
-returns-in_err-tree-clause-reads_new g t c =
-    let none : has_path c.args.walk.now c.args.path.now ≡ false = has_found c.args.walk.now c.args.path.now ∙ (sym c.contains_key.ensures ∙ c.if-contains_key.false) in
-    one_new c.args.folder.now _ _ c.args.walk.now c.args.path.now (not_begun c.args.walk.now c.args.path.now c.requires.1.1.1 none) c.in_ok-bytes.ensures.asked
-
-pub returns-in_err-lines-clause-reads_new : goal.returns-in_err-lines-clause-reads_new
-returns-in_err-lines-clause-reads_new g t c =
-    let none : has_path c.args.walk.now c.args.path.now ≡ false = has_found c.args.walk.now c.args.path.now ∙ (sym c.contains_key.ensures ∙ c.if-contains_key.false) in
-    one_new c.args.folder.now _ _ c.args.walk.now c.args.path.now (not_begun c.args.walk.now c.args.path.now c.requires.1.1.1 none) c.in_ok-bytes.ensures.asked
 
 pub returns-in_err-begin-clause-reads_new : goal.returns-in_err-begin-clause-reads_new
 returns-in_err-begin-clause-reads_new g t c =
     let none : has_path c.args.walk.now c.args.path.now ≡ false = has_found c.args.walk.now c.args.path.now ∙ (sym c.contains_key.ensures ∙ c.if-contains_key.false) in
-    one_new c.args.folder.now _ _ c.args.walk.now c.args.path.now (not_begun c.args.walk.now c.args.path.now c.requires.1.1.1 none) c.in_ok-bytes.ensures.asked
+    one_new c.args.folder.now _ _ c.args.walk.now c.args.path.now (not_begun c.args.walk.now c.args.path.now c.requires.1.1.1 none) c.in_ok-file.ensures.asked
 
 pub returns-clause-extends : goal.returns-clause-extends
 returns-clause-extends g t c =
     let inv = c.lines.invariant in
     let last = c.in_ok-end.ensures.comes inv.asked.is_unread in
-    let file : kept.SourceFile = record { bytes = c.in_ok-bytes.bytes; tree = c.in_ok-tree.tree } in
+    let file : kept.SourceFile = c.in_ok-file.field-0.file in
     both_extend c.args.walk.now c.lines.walk c.end.new.self inv.extends ((last.0, file) ∷ [], last.2)
 
 pub returns-clause-lists : goal.returns-clause-lists
@@ -231,13 +192,13 @@ returns-clause-lists g t c =
     let new = c.end.new.self in
     let path : List ℕ = c.args.path.now in
     let inv = c.lines.invariant in
-    let ls : List lines.ImportLine = c.in_ok-lines.lines.items in
+    let ls : List lines.ImportLine = c.in_ok-file.field-0.lines.items in
     let last = c.in_ok-end.ensures.comes inv.asked.is_unread in
-    let file : kept.SourceFile = record { bytes = c.in_ok-bytes.bytes; tree = c.in_ok-tree.tree } in
+    let file : kept.SourceFile = c.in_ok-file.field-0.file in
     let whole : take c.lines.index ls ≡ ls = take_all c.lines.index ls (omega arith) in
     let none : has_path walk path ≡ false = has_found walk path ∙ (sym c.contains_key.ensures ∙ c.if-contains_key.false) in
     file_listed walk mid new path last.0 file ls (subst (λ (xs : List lines.ImportLine). VisitLists (listed_paths walk) (map line_path xs) mid) whole inv.lists)
-    c.in_ok-lines.ensures last.1 last.2 none inv.asked.is_unread
+    c.in_ok-file.ensures.lines last.1 last.2 none inv.asked.is_unread
 
 pub returns-then-contains_key-clause-lists : goal.returns-then-contains_key-clause-lists
 returns-then-contains_key-clause-lists g t c =
