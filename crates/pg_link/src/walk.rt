@@ -38,7 +38,7 @@ pub(crate) struct Asking<'a> {
 }
 
 /// The files that were read, and how far.
-#[derive(Debug, Drop)]
+#[derive(Drop)]
 pub(crate) struct Walk {
     /// By path, each after those that it imports.
     pub files: IndexMap<String, SourceFile>,

@@ -7,7 +7,7 @@ use pg_syntax::tree::{FileTree, Statement};
 use std::alloc::{AllocError, Global};
 
 /// An import statement, with the offset of its literal.
-#[derive(Debug, Drop)]
+#[derive(Drop)]
 pub(crate) struct ImportLine {
     pub path: String,
     pub is_public: bool,

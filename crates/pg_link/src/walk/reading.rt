@@ -22,7 +22,7 @@ use pg_syntax::tree::FileTree;
 use std::alloc::{AllocError, Global};
 
 /// A file whose imports aren't followed yet, and those.
-#[derive(Debug, Drop)]
+#[derive(Drop)]
 pub(crate) struct NewFile {
     pub file: SourceFile,
     pub lines: Vec<ImportLine>,
