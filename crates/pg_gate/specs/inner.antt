@@ -1,4 +1,5 @@
 pub mod Claims
+pub mod Commands
 pub mod Cursor
 pub mod Faults
 pub mod Matches

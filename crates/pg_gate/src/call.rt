@@ -1,6 +1,7 @@
 //! What a command line calls for.
 
 pub(crate) mod command_line;
+pub(crate) mod commands;
 pub(crate) mod error;
 pub(crate) mod help;
 

@@ -1,16 +1,15 @@
 //! The command line, read with `clap`.
 ghost use Rattle.std.specs.Prelude.{◌≡◌, ◌≢◌, List, true, false, IfErr, IfOk};
 ghost use Rattle.clap.specs.Walk.{texts};
-ghost use Rattle.clap.specs.Words.{Text, found_of, has_subcommand, kind_of, rows_of, rule_of};
+ghost use Rattle.clap.specs.Words.{App, Text, found_of, has_subcommand, kind_of, rows_of, rule_of};
 ghost use Rattle.pg_gate.specs.call.Call as spec;
 ghost use Rattle.pg_gate.specs.call.CommandLine as command_line;
+ghost use Rattle.pg_gate.specs.inner.Commands.{app_for, apps_for, rule_for, rules_for};
 ghost use Rattle.pg_gate.specs.inner.Matches.{AreMatchesOf, HasApp};
 ghost use Rattle.pg_gate.specs.answer.Files.{both_paths, paths_in};
 
-use crate::call::help::{
-    COMPILE_ANSWERS, GATE_ALL_ANSWERS, GATE_ANSWERS, NEW_FILE, NEW_FILES, OLD_FILE, OLD_FILES,
-    SHOW_ANSWERS, SHOWN_FILE, STATUSES, TYPES_ANSWERS, VERIFY_ANSWERS, VIEW,
-};
+use crate::call::commands::{Description, SUBCOMMANDS, Subcommand};
+use crate::call::help::{STATUSES, VIEW};
 use crate::call::{BothFiles, Call, Files, GateAllCall, GateCall, ShowCall};
 use clap::error::ErrorKind;
 use clap::{Arg, ArgAction, ArgMatches, Command, Error};
@@ -105,114 +104,62 @@ fn flag<'a>(alloc: Global, name: &'a str, help: &'a str) -> Arg<'a>
         .help(help)
 }
 
-fn compile_command<'a>(alloc: Global) -> Result<Command<'a>, AllocError>
-    ensures { IfOk result (HasApp command_line.compile_app) }
+/// The names of the views.
+#[derive(Clone, Copy)]
+struct Views<'a>(&'a [&'a str]);
+
+/// The argument that a description is of.
+fn argument_of<'a>(alloc: Global, description: &Description, views: Views<'a>) -> Arg<'a>
+    ensures rule { rule_of result ≡ rule_for views.entry.0 description.now }
+    ensures local { result.global ≡ false }
 {
-    Command::new(alloc, "compile")
-        .about("Write the descriptor set of proto3 files and of all that they import")
-        .after_help(COMPILE_ANSWERS)
-        .arg(folder(alloc, "dir", "The folder of the files and of their imports"))?
-        .arg(positionals(alloc, "FILE", "The proto3 files"))
+    match *description {
+        Description::Folder(name, help) => folder(alloc, name, help),
+        Description::Named(name, value, help) => named(alloc, name, value, help),
+        Description::NamedEach(name, value, help) => named_each(alloc, name, value, help),
+        Description::Positional(name, help) => positional(alloc, name, help),
+        Description::Positionals(name, help) => positionals(alloc, name, help),
+        Description::Flag(name, help) => flag(alloc, name, help),
+        Description::View => view_option(alloc, views.0),
+    }
 }
 
-fn gate_command<'a>(alloc: Global, views: &'a [&'a str]) -> Result<Command<'a>, AllocError>
-    ensures { IfOk result (HasApp (command_line.gate_app views.entry)) }
+/// The command with these arguments too.
+fn with_arguments<'a>(
+    alloc: Global,
+    command: Command<'a>,
+    arguments: &[Description],
+    views: Views<'a>,
+) -> Result<Command<'a>, AllocError>
+    ensures { (app : App) → HasApp app command.entry → IfOk result
+        (HasApp (command_line.with_rules app (rules_for views.entry.0 arguments.now))) }
 {
-    Command::new(alloc, "gate")
-        .about("Find whether a reader of the new type sees all that a writer of the old one writes")
-        .after_help(GATE_ANSWERS)
-        .arg(folder(alloc, "old-dir", "The folder of the old file"))?
-        .arg(folder(alloc, "new-dir", "The folder of the new file"))?
-        .arg(named(alloc, "old", "F", OLD_FILE))?
-        .arg(named(alloc, "new", "F", NEW_FILE))?
-        .arg(named(alloc, "type", "NAME", "The message type, by its full name"))?
-        .arg(flag(
-            alloc,
-            "cert",
-            "Write the certificate alone, which shows the answer",
-        ))?
-        .arg(flag(
-            alloc,
-            "both",
-            "Ask for both directions; with --cert it does nothing",
-        ))?
-        .arg(flag(
-            alloc,
-            "explain",
-            "Show what breaks as both sides read it; with --cert it does nothing",
-        ))?
-        .arg(view_option(alloc, views))
+    let mut built = command;
+    for argument in arguments {
+        built = built.arg(argument_of(alloc, argument, views))?;
+    }
+    Ok(built)
 }
 
-fn gate_all_command<'a>(alloc: Global, views: &'a [&'a str]) -> Result<Command<'a>, AllocError>
-    ensures { IfOk result (HasApp (command_line.gate_all_app views.entry)) }
+/// The subcommand that a description is of.
+fn command_of<'a>(
+    alloc: Global,
+    subcommand: &Subcommand,
+    views: Views<'a>,
+) -> Result<Command<'a>, AllocError>
+    ensures { IfOk result (HasApp (app_for views.entry.0 subcommand.now)) }
 {
-    Command::new(alloc, "gate-all")
-        .about("Find all that breaks between the message types of two sides")
-        .after_help(GATE_ALL_ANSWERS)
-        .arg(folder(alloc, "old-dir", "The folder of the old files"))?
-        .arg(folder(alloc, "new-dir", "The folder of the new files"))?
-        .arg(named_each(alloc, "old", "F", OLD_FILES))?
-        .arg(named_each(alloc, "new", "F", NEW_FILES))?
-        .arg(flag(alloc, "explain", "Show each cause as both sides read it"))?
-        .arg(view_option(alloc, views))
+    let command = Command::new(alloc, subcommand.name)
+        .about(subcommand.about)
+        .after_help(subcommand.answers.text());
+    with_arguments(alloc, command, subcommand.arguments, views)
 }
 
-fn verify_command<'a>(alloc: Global) -> Result<Command<'a>, AllocError>
-    ensures { IfOk result (HasApp command_line.verify_app) }
-{
-    Command::new(alloc, "verify")
-        .about("Check a certificate of two message types, which the gate wrote with --cert")
-        .after_help(VERIFY_ANSWERS)
-        .arg(folder(alloc, "old-dir", "The folder of the old file"))?
-        .arg(folder(alloc, "new-dir", "The folder of the new file"))?
-        .arg(named(alloc, "old", "F", OLD_FILE))?
-        .arg(named(alloc, "new", "F", NEW_FILE))?
-        .arg(positional(
-            alloc,
-            "CERT",
-            "The certificate's file, from the current folder",
-        ))
-}
-
-fn show_command<'a>(alloc: Global) -> Result<Command<'a>, AllocError>
-    ensures { IfOk result (HasApp command_line.show_app) }
-{
-    Command::new(alloc, "show")
-        .about(
-            "Show what the bytes of a message are read as, and the bytes that are written of it again",
-        )
-        .after_help(SHOW_ANSWERS)
-        .arg(folder(alloc, "dir", "The folder of the file and of its imports"))?
-        .arg(named(alloc, "file", "F", SHOWN_FILE))?
-        .arg(named(alloc, "type", "NAME", "The message type, by its full name"))?
-        .arg(positional(
-            alloc,
-            "HEX",
-            "The bytes, in hexadecimal, two digits each; - for no bytes",
-        ))
-}
-
-fn types_command<'a>(alloc: Global) -> Result<Command<'a>, AllocError>
-    ensures { IfOk result (HasApp command_line.types_app) }
-{
-    Command::new(alloc, "types")
-        .about("Name the message types of files and of all that they import")
-        .after_help(TYPES_ANSWERS)
-        .arg(folder(alloc, "dir", "The folder of the files and of their imports"))?
-        .arg(positionals(
-            alloc,
-            "FILE",
-            "The proto3 files, or one descriptor set where FILE doesn't end in .proto",
-        ))
-}
-
-/// The whole command line, but for the program's name.
-fn whole_command<'a>(alloc: Global, views: &'a [&'a str]) -> Result<Command<'a>, AllocError>
-    ensures { IfOk result (HasApp (command_line.whole_app views.entry)) }
+/// The command line without its subcommands, but for the program's name.
+fn top_command<'a>(alloc: Global) -> Result<Command<'a>, AllocError>
+    ensures { IfOk result (HasApp command_line.top_app) }
 {
     Command::new(alloc, "protogate")
-        .bin_name("protogate")?
         .about(
             "Compare proto3 message types before a changed file is released, write descriptor sets, show messages, and name types",
         )
@@ -220,12 +167,31 @@ fn whole_command<'a>(alloc: Global, views: &'a [&'a str]) -> Result<Command<'a>,
         .version(VERSION)
         .no_binary_name(true)
         .subcommand_required(true)
-        .subcommand(compile_command(alloc)?)?
-        .subcommand(gate_command(alloc, views)?)?
-        .subcommand(gate_all_command(alloc, views)?)?
-        .subcommand(verify_command(alloc)?)?
-        .subcommand(show_command(alloc)?)?
-        .subcommand(types_command(alloc)?)
+        .bin_name("protogate")
+}
+
+/// The command line with these subcommands.
+fn with_subcommands<'a>(
+    alloc: Global,
+    subcommands: &[Subcommand],
+    views: Views<'a>,
+) -> Result<Command<'a>, AllocError>
+    ensures { IfOk result (HasApp
+        (command_line.with_apps command_line.top_app (apps_for views.entry.0 subcommands.now))) }
+{
+    let mut built = top_command(alloc)?;
+    for subcommand in subcommands {
+        let command = command_of(alloc, subcommand, views)?;
+        built = built.subcommand(command)?;
+    }
+    Ok(built)
+}
+
+/// The whole command line, but for the program's name.
+fn whole_command<'a>(alloc: Global, views: &'a [&'a str]) -> Result<Command<'a>, AllocError>
+    ensures { IfOk result (HasApp (command_line.whole_app views.entry)) }
+{
+    with_subcommands(alloc, SUBCOMMANDS.as_slice(), Views(views))
 }
 
 /// The value of an option or of an argument without a name.

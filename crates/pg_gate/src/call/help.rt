@@ -10,8 +10,7 @@ pub(crate) const STATUSES: &str = "Statuses:
   5  bound: a certificate gives only a lower bound on the length of a message that breaks";
 
 /// What help says of a set that is written: what is printed, and the statuses.
-pub(crate) const COMPILE_ANSWERS: &str =
-    "Prints the bytes of a google.protobuf.FileDescriptorSet, or a line
+const COMPILE_ANSWERS: &str = "Prints the bytes of a google.protobuf.FileDescriptorSet, or a line
   refused CODE POSITION  no set, for a fault at that position; `man protogate` has each code
 
 Statuses:
@@ -21,7 +20,7 @@ Statuses:
   4  help, the version, or a bad command line";
 
 /// What help says of the gate's answers: what is printed, and the statuses.
-pub(crate) const GATE_ANSWERS: &str = "Prints lines:
+const GATE_ANSWERS: &str = "Prints lines:
   compatible NAME       no message breaks
   breaks NAME LENGTH    some message does; the shortest have that many bytes
   witness HEX           one of these, after breaks
@@ -46,7 +45,7 @@ Statuses:
   5  never of gate: only verify ends so, where a certificate gives a bound alone";
 
 /// What help says of the answers on all message types: what is printed, and the statuses.
-pub(crate) const GATE_ALL_ANSWERS: &str = "Prints lines, in this order:
+const GATE_ALL_ANSWERS: &str = "Prints lines, in this order:
   cause CASE LENGTH HEX NUMBER OLDFIELD OLDPOSITION NEWFIELD NEWPOSITION
                         a field that breaks by itself, in a message type of both sides or one that these lead to;
                         each is printed once. HEX is a shortest message of its old message type that breaks so.
@@ -78,8 +77,7 @@ Statuses:
   5  never of gate-all: only verify ends so, where a certificate gives a bound alone";
 
 /// What help says of a message that is shown: what is printed, and the statuses.
-pub(crate) const SHOW_ANSWERS: &str =
-    "Prints lines, those of a nested message two spaces further in:
+const SHOW_ANSWERS: &str = "Prints lines, those of a nested message two spaces further in:
   NUMBER NAME ITEM      an item of a field
   NUMBER NAME key ITEM value ITEM
                         an entry of a map
@@ -97,7 +95,7 @@ Statuses:
   4  help, the version, or a bad command line";
 
 /// What help says of a checked certificate: what is printed, and the statuses.
-pub(crate) const VERIFY_ANSWERS: &str = "Prints one line:
+const VERIFY_ANSWERS: &str = "Prints one line:
   compatible NAME       the certificate holds: no message breaks
   breaks NAME LENGTH    it holds: its witness breaks, and no shorter message does
   bound NAME LENGTH     it holds: a message that breaks has at least that many bytes
@@ -113,7 +111,7 @@ Statuses:
   5  bound: it holds, and gives only a lower bound on the length of a message that breaks";
 
 /// What help says of the names of types: what is printed, and the statuses.
-pub(crate) const TYPES_ANSWERS: &str = "Prints lines:
+const TYPES_ANSWERS: &str = "Prints lines:
   NAME                  each message type by its full name, in order of declaration, those of imports too
   refused CODE POSITION no names, for a fault at that position; `man protogate` has each code
 
@@ -144,3 +142,28 @@ pub(crate) const SHOWN_FILE: &str =
 /// What help says of the view by which enums are compared.
 pub(crate) const VIEW: &str =
     "Compare enums by their numbers alone, or by the names of the numbers too";
+
+/// The answers of a subcommand.
+#[derive(Clone, Copy)]
+pub(crate) enum Answers {
+    Compile,
+    Gate,
+    GateAll,
+    Verify,
+    Show,
+    Types,
+}
+
+impl Answers {
+    /// What help says of them. A table of these texts would take long to prove.
+    pub(crate) fn text(self) -> &'static str {
+        match self {
+            Answers::Compile => COMPILE_ANSWERS,
+            Answers::Gate => GATE_ANSWERS,
+            Answers::GateAll => GATE_ALL_ANSWERS,
+            Answers::Verify => VERIFY_ANSWERS,
+            Answers::Show => SHOW_ANSWERS,
+            Answers::Types => TYPES_ANSWERS,
+        }
+    }
+}
