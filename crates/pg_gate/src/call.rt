@@ -9,14 +9,14 @@ use pg_dyn::ViewName;
 
 /// The files of a side, by their paths below a folder: source files, with all that they import, or
 /// one descriptor set.
-#[derive(Clone, Copy, Debug)]
+#[derive(Clone, Copy)]
 pub(crate) struct Files<'a> {
     pub folder: &'a str,
     pub paths: &'a [&'a str],
 }
 
 /// The files of the old and of the new side.
-#[derive(Clone, Copy, Debug)]
+#[derive(Clone, Copy)]
 pub(crate) struct BothFiles<'a> {
     pub old: Files<'a>,
     pub new: Files<'a>,
@@ -25,7 +25,7 @@ pub(crate) struct BothFiles<'a> {
 /// What the gate is asked: what a reader of the new type reads of the messages that a writer of the
 /// old one writes, with enums compared by the view. On request, the answer is the certificate
 /// alone; else, on request, it has both directions, and it explains what breaks.
-#[derive(Clone, Copy, Debug)]
+#[derive(Clone, Copy)]
 pub(crate) struct GateCall<'a> {
     pub files: BothFiles<'a>,
     pub root: &'a str,
@@ -38,7 +38,7 @@ pub(crate) struct GateCall<'a> {
 /// What the gate of all message types is asked: what a reader of the new types reads of the
 /// messages that a writer of the old ones writes, for all message types that both sides have. Enums
 /// are compared by the view, and on request each cause is explained.
-#[derive(Clone, Copy, Debug)]
+#[derive(Clone, Copy)]
 pub(crate) struct GateAllCall<'a> {
     pub files: BothFiles<'a>,
     pub explain: bool,
@@ -47,7 +47,7 @@ pub(crate) struct GateAllCall<'a> {
 
 /// What is to be shown: the message that the bytes of this argument are read as, by the type of
 /// this full name in the files.
-#[derive(Clone, Copy, Debug)]
+#[derive(Clone, Copy)]
 pub(crate) struct ShowCall<'a> {
     pub files: Files<'a>,
     pub root: &'a str,
@@ -55,7 +55,7 @@ pub(crate) struct ShowCall<'a> {
 }
 
 /// The arguments of a command line, as they are meant.
-#[derive(Clone, Copy, Debug)]
+#[derive(Clone, Copy)]
 pub(crate) enum Call<'a> {
     /// The descriptor set of these source files, and of all that they import.
     Compile(Files<'a>),

@@ -11,7 +11,7 @@ use std::fmt;
 
 /// A cause with the field that breaks; where two fields meet in a oneof, also with the other one,
 /// of the larger number. On request, it has its message as both sides read it.
-#[derive(Debug, Drop)]
+#[derive(Drop)]
 pub(crate) struct PlacedCause {
     pub cause: Cause,
     pub field: Step,
@@ -21,7 +21,7 @@ pub(crate) struct PlacedCause {
 
 /// What is found of all message types of two sides: each cause by which a message breaks, a line for
 /// each type of both sides, and the names that only one side has.
-#[derive(Debug, Drop)]
+#[derive(Drop)]
 pub(crate) struct AllTypes {
     pub causes: Vec<PlacedCause>,
     pub types: Vec<TypeLine>,

@@ -6,14 +6,14 @@ use pg_link::Place;
 use std::fmt;
 
 /// A field, by its full name, and where it is declared.
-#[derive(Debug, Drop)]
+#[derive(Drop)]
 pub(crate) struct NamedField {
     pub name: String,
     pub place: Option<Place>,
 }
 
 /// A field on a witness's path: by its number, as the old type and the new one have it.
-#[derive(Debug, Drop)]
+#[derive(Drop)]
 pub(crate) struct Step {
     pub number: u32,
     pub old: NamedField,

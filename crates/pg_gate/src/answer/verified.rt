@@ -8,7 +8,7 @@ use std::fmt;
 
 /// What a certificate that holds shows of its root types: the full name of the old one, the
 /// verdict, and how many bytes the witness has, where there is one.
-#[derive(Debug, Drop)]
+#[derive(Drop)]
 pub(crate) struct Verified {
     pub name: String,
     pub verdict: Verdict,

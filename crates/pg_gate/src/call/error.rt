@@ -13,7 +13,7 @@ const MISSING_FILE: u16 = 301;
 pub(crate) const SOURCE_FAILED: u16 = 309;
 
 /// The full names of an old and a new message type.
-#[derive(Debug, Drop)]
+#[derive(Drop)]
 pub(crate) struct PairNames {
     pub old: String,
     pub new: String,

@@ -9,7 +9,7 @@ use pg_link::Place;
 use std::fmt;
 
 /// Where a fault is.
-#[derive(Debug, Drop)]
+#[derive(Drop)]
 pub(crate) enum Location {
     /// A fault without a position, as a missing root.
     Nowhere,

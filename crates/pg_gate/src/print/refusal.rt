@@ -13,7 +13,7 @@ use pg_dyn::DynError;
 use std::fmt;
 
 /// A refusal: the side that was compiled, the code's number, and where the fault is.
-#[derive(Debug, Drop)]
+#[derive(Drop)]
 pub(crate) struct Refusal {
     pub side: Option<Side>,
     pub code: u16,

@@ -12,7 +12,7 @@ use std::alloc::{AllocError, Global};
 use std::fmt;
 
 /// What a call is answered.
-#[derive(Debug, Drop)]
+#[derive(Drop)]
 pub(crate) enum Reply {
     /// The bytes of a descriptor set.
     Set(Vec<u8>),
@@ -28,7 +28,7 @@ pub(crate) enum Reply {
 }
 
 /// What is found for a call, as it is printed.
-#[derive(Debug, Drop)]
+#[derive(Drop)]
 pub(crate) enum Finding {
     /// No message breaks.
     Compatible,
@@ -49,7 +49,7 @@ pub(crate) enum Finding {
 }
 
 /// What `show` prints of a message's bytes by the old and by the new type: its lines, or a refusal.
-#[derive(Debug, Drop)]
+#[derive(Drop)]
 pub(crate) struct Readings {
     pub old: String,
     pub new: String,
