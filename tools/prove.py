@@ -274,7 +274,7 @@ def try_lent(room):
 
 
 def try_program(progress):
-    """Runs the testers of what `rt ci` built side by side, then the fuzzer, and then the examples. Prints what each said and took, in that order.
+    """Runs the testers of what `rt ci` built side by side, and then each of those that come alone. Prints what each said and took, in that order.
     Returns which passed, and what was passed over."""
     passed, over = [], []
 

@@ -21,6 +21,7 @@ import unittest
 
 sys.dont_write_bytecode = True
 from call_files import call_of, copied, imports_in  # noqa: E402
+from first_answer import SECONDS  # noqa: E402
 from trial_checkout import FIRST_PAGE, TOP, Checkout, Compared, KitCheckout, is_alive, read, run_tests, stand_in, write  # noqa: E402
 
 HEAD = 'syntax = "proto3";\n'
@@ -349,7 +350,7 @@ class Kit(KitCheckout):
     def tried(self, words):
         """Runs `rt try` on the program with these words."""
         how = {"cwd": f"{self.top}/crates/protogate", "stdin": subprocess.DEVNULL, "stdout": subprocess.PIPE, "stderr": subprocess.PIPE}
-        return subprocess.run(["rt", "try", *words], check=False, **how)
+        return subprocess.run(["rt", "try", "--seconds", str(SECONDS), *words], check=False, **how)
 
     def compare_cases(self, asked, wanted, data):
         for name, words in asked.items():
