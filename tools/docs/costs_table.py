@@ -4,7 +4,8 @@
 usage: tools/docs/costs_table.py --write      writes the table
        tools/docs/costs_table.py --compare    status 1 where the table isn't so
 
-`tools/prove.py --costs` measures costs.txt again, and then writes the table too.
+Either prints what a whole gate and a build of the program take, beside what is allowed and what is wanted. `tools/prove.py --costs` measures
+costs.txt again, and then writes the table too.
 """
 
 import os
@@ -25,6 +26,10 @@ HEAD = f"| Processor seconds | {' | '.join(times.KINDS)} | all |"
 OTHERS = (("`promises_*`", "promises_"), ("`rows_*`", "rows_"), ("`tests_*`, `kit_*`, `examples_*`", ("tests_", "kit_", "examples_")))
 # What tries the built program, as costs.txt calls it.
 TESTERS = "testers"
+# So many times the seconds of the machine for which the budget is were taken where costs.txt was measured, by crates that hadn't changed.
+SLOWER = 1.31
+# What a whole gate may take there, what it should take, and what a build of the program should take, in processor seconds.
+BUDGET, GOAL, GOAL_OF_BUILD = 15_000, 10_000, 3_300
 
 
 def groups():
@@ -47,6 +52,14 @@ def table(costs, rows):
     return [HEAD, "|" + "---|" * (len(times.KINDS) + 2), *lines, row("**all**", [sum(it) for it in zip(*sums)])]
 
 
+def beside_budget(costs, rows):
+    """Returns a line for a whole gate and one for a build of the program, which proves the product: their seconds, beside what is wanted."""
+    whole = sum(costs.get(it, {}).get(kind, 0) for _, names in rows for it in names for kind in times.KINDS)
+    build = sum(seconds["proof"] for name, seconds in costs.items() if name.startswith("pg_") or name == PROGRAM)
+    gate = f"a whole gate takes {whole:,} processor seconds, some {whole / SLOWER:,.0f} where the budget is {BUDGET:,} and the goal {GOAL:,}"
+    return [gate, f"a build of the program takes {build:,}, some {build / SLOWER:,.0f} where the goal is {GOAL_OF_BUILD:,}"]
+
+
 def page_with(page, lines):
     """Returns a page with these lines in the place of the table that begins like them."""
     before, head, after = page.partition(f"{HEAD}\n")
@@ -63,7 +76,9 @@ def main(words):
         return 4
     with open(f"{TOP}/{PAGE}", encoding="utf-8") as file:
         page = file.read()
-    wanted = page_with(page, table(times.read(), groups()))
+    costs, rows = times.read(), groups()
+    wanted = page_with(page, table(costs, rows))
+    print("\n".join(beside_budget(costs, rows)))
     if words == ["--write"]:
         with open(f"{TOP}/{PAGE}", "w", encoding="utf-8") as file:
             file.write(wanted)

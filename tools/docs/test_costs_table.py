@@ -66,6 +66,12 @@ class Table(unittest.TestCase):
         with contextlib.redirect_stdout(io.StringIO()), contextlib.redirect_stderr(io.StringIO()):
             return costs_table.main([*words])
 
+    def test_what_a_gate_and_a_build_take_beside_the_budget(self):
+        with mock.patch.object(costs_table, "SLOWER", 2):
+            gate, build = costs_table.beside_budget(times.read(), costs_table.groups())
+        self.assertIn("takes 2,508 processor seconds, some 1,254 where the budget is 15,000 and the goal 10,000", gate)
+        self.assertIn("takes 1,176, some 588 where the goal is 3,300", build)
+
     def test_a_page_with_the_sums(self):
         self.assertEqual(self.run_on("--compare"), 0)
 
