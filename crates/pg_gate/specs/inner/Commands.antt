@@ -1,4 +1,4 @@
--- What the descriptions of subcommands and arguments are of, in clap's contracts.
+-- What the descriptions of subcommands and arguments describe, in clap's contracts.
 use Rattle.std.specs.Prelude.{List, map}
 use Rattle.std.specs.Borrow.{Bor}
 use Rattle.clap.specs.Words.{App, Rule, Text, new_app}

@@ -7,6 +7,7 @@ ghost use Rattle.pg_schema.specs.Parts.{shape_of};
 ghost use Rattle.pg_gate.specs.answer.AllTypes.{IsAllTypes};
 ghost use Rattle.pg_gate.specs.answer.Answer.{IsRefusedRoot};
 ghost use Rattle.pg_gate.specs.call.Call.{gate_request, request_of};
+ghost use Rattle.pg_gate.specs.Errors.{IsMemory};
 ghost use Rattle.pg_gate.specs.Failures.{call_failures, side_failures};
 ghost use Rattle.pg_gate.specs.answer.Grants.{Between, Grants, IsErrorFor, IsFindingOf, IsGateError, IsGateReply, IsReplyFor, IsSidesError, seen};
 ghost use Rattle.pg_gate.specs.answer.Files.{paths_in};
@@ -15,7 +16,7 @@ ghost use Rattle.pg_gate.specs.inner.Sources.{world_of};
 ghost use Rattle.pg_gate.specs.inner.Reports.{Reports, ReportsAnswer, ReportsCertificate};
 
 use crate::answer::all_types::AllTypes;
-use crate::answer::both_sides::compile_both;
+use crate::answer::both_sides::{BothSides, compile_both};
 use crate::answer::causes::all_types;
 use crate::answer::compile::Compiled;
 use crate::answer::explaining::{Broken, explained};
@@ -166,6 +167,19 @@ fn find<S: Sources, T: Sources>(
     between(alloc, &both.old, &both.new, asked)
 }
 
+/// What is found of all message types of two sides that compiled.
+fn all_between(
+    alloc: Global,
+    both: &BothSides,
+    asked: &GateAllCall<'_>,
+) -> Result<AllTypes, GateError>
+    ensures found { IfOk result (IsAllTypes asked.now.view both.now.old.schema both.now.new.schema
+        asked.now.explain) }
+    ensures refused { IfErr result IsMemory }
+{
+    Ok(all_types(alloc, &both.old, &both.new, asked.view, asked.explain)?)
+}
+
 /// What is found of all message types of the two sides.
 fn find_all<S: Sources, T: Sources>(
     alloc: Global,
@@ -183,8 +197,10 @@ fn find_all<S: Sources, T: Sources>(
     ensures old_reads { Reads S.Sources old.old old.new (side_failures Side.Old result) }
     ensures new_reads { Reads T.Sources new.old new.new (side_failures Side.New result) }
 {
-    let both = compile_both(alloc, &asked.files, true, old, new)?;
-    Ok(all_types(alloc, &both.old, &both.new, asked.view, asked.explain)?)
+    match compile_both(alloc, &asked.files, true, old, new) {
+        Ok(both) => all_between(alloc, &both, asked),
+        Err(error) => Err(error),
+    }
 }
 
 /// What is answered to a call, where nothing is refused.

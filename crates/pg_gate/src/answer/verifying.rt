@@ -9,9 +9,9 @@ ghost use Rattle.pg_gate.specs.answer.Files.{paths_in};
 ghost use Rattle.pg_link.specs.walk.Reads.{Reads};
 ghost use Rattle.pg_gate.specs.inner.Sources.{world_of};
 ghost use Rattle.pg_gate.specs.answer.Verified as spec;
-ghost use Rattle.pg_gate.specs.inner.Claims.{IsClaimError, IsClaimRefusal, IsUngiven};
+ghost use Rattle.pg_gate.specs.inner.Claims.{IsClaimError, IsClaimRefusal, IsFound, IsUngiven, IsUntaken};
 
-use crate::answer::both_sides::compile_both;
+use crate::answer::both_sides::{BothSides, compile_both};
 use crate::answer::verified::Verified;
 use crate::call::BothFiles;
 use crate::call::error::{CallError, CertificateFault, ClaimFault, PairNames};
@@ -187,6 +187,23 @@ fn held(alloc: Global, old: &Schema, new: &Schema, bytes: &[u8]) -> Result<Findi
     }))
 }
 
+/// What the certificate at this path of the source shows of two sides that compiled.
+fn verify_between<S: Sources>(
+    alloc: Global,
+    both: &BothSides,
+    source: &mut S,
+    path: &str,
+) -> Result<Finding, CallError>
+    ensures found { IfOk result
+        (IsFound (S.may_give source.old) path.now both.now.old.schema both.now.new.schema) }
+    ensures refused { IfErr result (IsUntaken (S.may_give source.old) (S.may_lack source.old)
+        path.now both.now.old.schema both.now.new.schema) }
+    ensures reads { Reads S.Sources source.old source.new (call_failures Side.Old result) }
+{
+    let bytes = read(alloc, source, path)?;
+    held(alloc, &both.old.schema, &both.new.schema, &bytes)
+}
+
 /// What the certificate shows of the two sides. It is asked of the old source, after both sides
 /// compiled.
 pub(crate) fn verify<S: Sources, T: Sources>(
@@ -205,7 +222,8 @@ pub(crate) fn verify<S: Sources, T: Sources>(
     ensures old_reads { Reads S.Sources old.old old.new (call_failures Side.Old result) }
     ensures new_reads { Reads T.Sources new.old new.new (call_failures Side.New result) }
 {
-    let both = compile_both(alloc, files, false, old, new)?;
-    let bytes = read(alloc, old, certificate)?;
-    held(alloc, &both.old.schema, &both.new.schema, &bytes)
+    match compile_both(alloc, files, false, old, new) {
+        Ok(both) => verify_between(alloc, &both, old, certificate),
+        Err(error) => Err(CallError::Gate(error)),
+    }
 }

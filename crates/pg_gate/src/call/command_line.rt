@@ -108,7 +108,7 @@ fn flag<'a>(alloc: Global, name: &'a str, help: &'a str) -> Arg<'a>
 #[derive(Clone, Copy)]
 struct Views<'a>(&'a [&'a str]);
 
-/// The argument that a description is of.
+/// The argument that `description` describes.
 fn argument_of<'a>(alloc: Global, description: &Description, views: Views<'a>) -> Arg<'a>
     ensures rule { rule_of result ≡ rule_for views.entry.0 description.now }
     ensures local { result.global ≡ false }
@@ -141,7 +141,7 @@ fn with_arguments<'a>(
     Ok(built)
 }
 
-/// The subcommand that a description is of.
+/// The command that `subcommand` describes.
 fn command_of<'a>(
     alloc: Global,
     subcommand: &Subcommand,

@@ -155,7 +155,7 @@ pub(crate) enum Answers {
 }
 
 impl Answers {
-    /// What help says of them. A table of these texts would take long to prove.
+    /// What help says of them.
     pub(crate) fn text(self) -> &'static str {
         match self {
             Answers::Compile => COMPILE_ANSWERS,

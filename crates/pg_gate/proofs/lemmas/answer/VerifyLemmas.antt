@@ -24,7 +24,7 @@ use Rattle.pg_gate.specs.Failures.{call_failures_at}
 use Rattle.pg_gate.specs.answer.Files.{IsSide}
 use Rattle.pg_gate.specs.answer.Grants.{IsSidesFault, IsVerified, IsVerifyError}
 use Rattle.pg_gate.specs.answer.Verified.{HasFirstFault, IsClaimFault, IsFaultOfClaim, IsHeldBy, IsPlaceOf}
-use Rattle.pg_gate.specs.inner.Claims.{IsClaimError, IsClaimRefusal, IsUngiven}
+use Rattle.pg_gate.specs.inner.Claims.{IsClaimError, IsClaimRefusal, IsFound, IsUngiven, IsUntaken}
 use Rattle.pg_gate.specs.declared.call.error.CallError.{CallError}
 use Rattle.pg_gate.specs.declared.call.error.CallError.TheVariants as calls
 use Rattle.pg_gate.specs.declared.call.error.CertificateFault.TheVariants as certificates
@@ -137,27 +137,42 @@ module _ (old new : Parts) (bytes : Text) where
     check_fault checks.WitnessLength is = by_first checks.WitnessLength (λ first. first) is
     check_fault checks.WitnessKeeps is = by_first checks.WitnessKeeps (λ first. first) is
 
+-- ---- a source that is asked for a certificate
+
+module _ (give : Text → Text → Bool) (lack : Text → Bool) (path : Text) (a b : Parts) where
+  pub untaken_ungiven : (error : CallError) → IsUngiven lack path error → IsUntaken give lack path a b error
+  untaken_ungiven (calls.Gate error) is = is
+  untaken_ungiven (calls.Certificate (certificates.Missing file)) is = is
+  untaken_ungiven (calls.Certificate (certificates.Failed file)) is = is
+  untaken_ungiven (calls.Certificate (certificates.Refused fault)) is = absurd is
+  untaken_ungiven (calls.Bytes error) is = absurd is
+
+  pub untaken_refused : (bytes : Text) → IsTrue (give path bytes) → (error : CallError) → IsClaimError a b bytes error → IsUntaken give lack path a b error
+  untaken_refused bytes given (calls.Gate error) is = is
+  untaken_refused bytes given (calls.Certificate (certificates.Missing file)) is = absurd is
+  untaken_refused bytes given (calls.Certificate (certificates.Failed file)) is = absurd is
+  untaken_refused bytes given (calls.Certificate (certificates.Refused fault)) is = record { bytes = bytes; given = given; so = is }
+  untaken_refused bytes given (calls.Bytes error) is = absurd is
+
+  -- the new source isn't asked for a certificate
+  pub untaken_uncounted : (error : CallError) → IsUntaken give lack path a b error → call_failures_at sides.New error ≡ 0
+  untaken_uncounted (calls.Gate error) is = of_memory sides.New error is
+  untaken_uncounted (calls.Certificate fault) is = refl
+  untaken_uncounted (calls.Bytes error) is = absurd is
+
 -- ---- sides
 
 module _ (path : Text) (old new : World) (a b : Parts) (of_old : IsSide old a) (of_new : IsSide new b) where
-  pub ungiven_of_files : (error : CallError) → IsUngiven old.may_lack path error → IsVerifyError path old new error
-  ungiven_of_files (calls.Gate error) is = memory_is ⊥ ⊥ ⊥ (IsSidesFault old new) error is
-  ungiven_of_files (calls.Certificate (certificates.Missing file)) is = record { old_schema = a; new_schema = b; of_old = of_old; of_new = of_new; so = is }
-  ungiven_of_files (calls.Certificate (certificates.Failed file)) is = record { old_schema = a; new_schema = b; of_old = of_old; of_new = of_new; so = is }
-  ungiven_of_files (calls.Certificate (certificates.Refused fault)) is = absurd is
-  ungiven_of_files (calls.Bytes error) is = absurd is
+  pub found_of_files : (finding : Finding) → IsFound old.may_give path a b finding → IsVerified path old new finding
+  found_of_files finding is = record { old_schema = a; new_schema = b; of_old = of_old; of_new = of_new; so = record { bytes = is.bytes; given = is.given; so = is.so } }
 
-  module _ (bytes : Text) (given : IsTrue (old.may_give path bytes)) where
-    pub held_of_files : (finding : Finding) → IsHeldBy a b bytes finding → IsVerified path old new finding
-    held_of_files finding is = record { old_schema = a; new_schema = b; of_old = of_old; of_new = of_new; so = record { bytes = bytes; given = given; so = is } }
-
-    pub refused_bytes_of_files : (error : CallError) → IsClaimError a b bytes error → IsVerifyError path old new error
-    refused_bytes_of_files (calls.Gate error) is = memory_is ⊥ ⊥ ⊥ (IsSidesFault old new) error is
-    refused_bytes_of_files (calls.Certificate (certificates.Missing file)) is = absurd is
-    refused_bytes_of_files (calls.Certificate (certificates.Failed file)) is = absurd is
-    refused_bytes_of_files (calls.Certificate (certificates.Refused fault)) is =
-        record { old_schema = a; new_schema = b; of_old = of_old; of_new = of_new; so = record { bytes = bytes; given = given; so = is } }
-    refused_bytes_of_files (calls.Bytes error) is = absurd is
+  pub untaken_of_files : (error : CallError) → IsUntaken old.may_give old.may_lack path a b error → IsVerifyError path old new error
+  untaken_of_files (calls.Gate error) is = memory_is ⊥ ⊥ ⊥ (IsSidesFault old new) error is
+  untaken_of_files (calls.Certificate (certificates.Missing file)) is = record { old_schema = a; new_schema = b; of_old = of_old; of_new = of_new; so = is }
+  untaken_of_files (calls.Certificate (certificates.Failed file)) is = record { old_schema = a; new_schema = b; of_old = of_old; of_new = of_new; so = is }
+  untaken_of_files (calls.Certificate (certificates.Refused fault)) is =
+      record { old_schema = a; new_schema = b; of_old = of_old; of_new = of_new; so = record { bytes = is.bytes; given = is.given; so = is.so } }
+  untaken_of_files (calls.Bytes error) is = absurd is
 
 -- no source failed where bytes are refused
 pub claim_uncounted : (old new : Parts) (bytes : Text) (side : Side) (error : CallError) → IsClaimError old new bytes error → call_failures_at side error ≡ 0
@@ -166,9 +181,3 @@ claim_uncounted old new bytes side (calls.Certificate (certificates.Missing file
 claim_uncounted old new bytes side (calls.Certificate (certificates.Failed file)) is = absurd is
 claim_uncounted old new bytes side (calls.Certificate (certificates.Refused fault)) is = of_refused side
 claim_uncounted old new bytes side (calls.Bytes error) is = absurd is
-
--- the new source isn't asked for a certificate
-pub ungiven_uncounted : (lack : Text → Bool) (path : Text) (error : CallError) → IsUngiven lack path error → call_failures_at sides.New error ≡ 0
-ungiven_uncounted lack path (calls.Gate error) is = of_memory sides.New error is
-ungiven_uncounted lack path (calls.Certificate fault) is = refl
-ungiven_uncounted lack path (calls.Bytes error) is = absurd is
