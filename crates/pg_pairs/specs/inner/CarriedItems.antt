@@ -3,12 +3,13 @@ use Rattle.std.specs.Prelude.{◌≡◌, ℕ, ⊤, [], ◌∷◌, List, true, fa
 use Rattle.pg_schema.specs.declared.parts.field.Element.{Element}
 use Rattle.pg_schema.specs.declared.parts.field.Element.TheVariants as elements
 use Rattle.pg_schema.specs.declared.parts.field.Presence.{Presence}
-use Rattle.pg_schema.specs.Shape.{Shape, is_map}
+use Rattle.pg_schema.specs.Shape.{FieldShape, Shape, is_map}
 use Rattle.pg_dyn.specs.declared.message.Content.{Content}
 use Rattle.pg_dyn.specs.declared.message.Content.TheVariants as contents
 use Rattle.pg_dyn.specs.declared.message.Value.{Value}
 use Rattle.pg_dyn.specs.declared.message.Value.TheVariants as values
 use Rattle.pg_dyn.specs.setting.ContentFaults.{HasKeyTwice}
+use Rattle.pg_dyn.specs.setting.Setting.{IsSetTo}
 use Rattle.pg_dyn.specs.fitting.ContentFits.{ItemsFit}
 use Rattle.pg_dyn.specs.message.Message.{Leaf, Item, Plain, Msg, Message, ends, with_part}
 use Rattle.pg_dyn.specs.word.Coding.{Form, zero_leaf}
@@ -20,7 +21,7 @@ use Rattle.pg_pairs.specs.declared.choices.case.Case.TheVariants as cases
 use Rattle.pg_pairs.specs.declared.witness.item.Small.{Small}
 use Rattle.pg_pairs.specs.declared.witness.item.Small.TheVariants.{Zero, NotZero, Far}
 use Rattle.pg_pairs.specs.gaps.Likeness.{like}
-use Rattle.pg_pairs.specs.witness.Carried.{nonzero_leaf, far_leaf}
+use Rattle.pg_pairs.specs.witness.Carried.{nonzero_leaf, far_leaf, least_part}
 
 abbrev pub leaf_by : Small → Form → Leaf
 leaf_by Zero f = zero_leaf f
@@ -51,6 +52,11 @@ content_before number (contents.Map es) later = entries_before number es.items l
 -- the content puts so much before the later parts of a message
 abbrev pub Puts : ℕ → Content → (Message → Message) → Type 0
 Puts number content before = (later : Message) → content_before number content later ≡ before later
+
+-- the new message is the old one with the field's least content set
+abbrev pub LeastIsSet : Shape → FieldShape → Kept → Kept → Type 0
+LeastIsSet shape f old new =
+    (content : Content) × Puts f.number content (least_part f) × IsSetTo shape f.number content old new
 
 -- a message of the content alone
 abbrev pub content_alone : ℕ → Content → Message
