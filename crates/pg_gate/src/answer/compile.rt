@@ -75,6 +75,21 @@ impl Compiled {
     }
 }
 
+/// The schema of linked files, with these.
+fn compile_linked(alloc: Global, side: Side, linked: Linked) -> Result<Compiled, GateError>
+    ensures declared { IfOk result (λ compiled.
+        Declares (linked_sources linked.files) compiled.schema) }
+    ensures refused { IfErr result (IsErrorOf (IsOfRules linked.files) side) }
+{
+    match schema_of(alloc, side, &linked) {
+        Ok(schema) => Ok(Compiled {
+            schema,
+            files: Some(linked),
+        }),
+        Err(error) => Err(error),
+    }
+}
+
 /// The schema of source files, with these: those at the paths, and all that they import.
 #[tactic(auto, using(crate::proofs::lemmas::ErrorLemmas::if_same_zero))]
 pub(crate) fn compile_sources<S: Sources>(
@@ -89,12 +104,10 @@ pub(crate) fn compile_sources<S: Sources>(
         (IsFaultOf (world_of S.Sources source.old (paths_in files.now))) side) }
     ensures reads { Reads S.Sources source.old source.new (side_failures side result) }
 {
-    let files = linked_files(alloc, source, side, files)?;
-    let schema = schema_of(alloc, side, &files)?;
-    Ok(Compiled {
-        schema,
-        files: Some(files),
-    })
+    match linked_files(alloc, source, side, files) {
+        Ok(linked) => compile_linked(alloc, side, linked),
+        Err(error) => Err(error),
+    }
 }
 
 /// The schema of the descriptor set at this path below the folder, which has no files.
