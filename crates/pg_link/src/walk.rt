@@ -1,6 +1,6 @@
 //! The imports, followed depth first, each path read once.
 ghost use Rattle.std.specs.Prelude.{◌≡◌, IfErr, IfOk, OnOk, ◌++◌, ◌∷◌, [], List, ℕ, false, map, string_bytes};
-ghost use Rattle.pg_link.specs.names.Files.{is_path_of};
+ghost use Rattle.pg_link.specs.names.Files.{Differ, is_path_of};
 ghost use Rattle.pg_link.specs.names.Names.{texts};
 ghost use Rattle.pg_link.specs.walk.Reads.{Reads, ReadsApart, ReadsEach, world_of};
 ghost use Rattle.pg_link.specs.inner.Walking.{ReadsAll, ReadsNew};
@@ -105,6 +105,7 @@ impl Walk {
 }
 
 /// Reads a file and, one by one, what it imports, unless it was read.
+#[cycle(visits)]
 fn visit<S: Sources>(
     alloc: Global,
     source: &mut S,
@@ -139,15 +140,51 @@ fn visit<S: Sources>(
         return Ok(());
     }
     let others = walk.opened.len() + walk.files.len();
-    let NewFile { file, lines } = read_new(alloc, source, folder, path, asking, others)?;
+    let read = read_new(alloc, source, folder, path, asking, others)?;
     walk.begin(alloc, path)?;
+    visit_imports(alloc, source, folder, path, &read, walk)?;
+    walk.end(alloc, path, read.file)?;
+    Ok(())
+}
+
+/// Visits what a new file imports, one by one, in its order. It is apart so that each proof has few
+/// values to drop.
+#[cycle(visits)]
+fn visit_imports<S: Sources>(
+    alloc: Global,
+    source: &mut S,
+    folder: &str,
+    path: &str,
+    read: &NewFile,
+    walk: &mut Walk,
+) -> Result<(), LinkError>
+    ensures sound { OnOk result ((roots : List (List ℕ))
+        → walking.Imports (world_of S.Sources source.old folder.now roots) walk.old path.now
+        read.now
+        → walking.IsSound (world_of S.Sources source.old folder.now roots)
+        (walking.open_paths walk.old) (walking.entries walk.new)) }
+    ensures refused { IfErr result (λ e. (roots : List (List ℕ))
+        → walking.Imports (world_of S.Sources source.old folder.now roots) walk.old path.now
+        read.now
+        → spec.Refuses (world_of S.Sources source.old folder.now roots) e) }
+    ensures opened { OnOk result (walking.open_paths walk.new ≡ walking.open_paths walk.old) }
+    ensures extends { OnOk result (walking.Extends walk.old walk.new) }
+    ensures lists { OnOk result
+        (walking.VisitLists (walking.listed_paths walk.old) (walking.lines_paths read.now)
+        walk.new) }
+    ensures apart { OnOk result (Differ (walking.lines_paths read.now)) }
+    ensures reads_new { ReadsNew folder.now (S.reads source.old) (S.reads source.new) walk.old }
+    ensures reads_all { OnOk result (ReadsAll folder.now (S.reads source.old)
+        (S.reads source.new) walk.old walk.new) }
+    ensures reads { Reads S.Sources source.old source.new (spec.failures_of result) }
+{
     let mut before = IndexSet::new(alloc);
     let mut index = 0;
-    'lines: while index < lines.len() {
-        let line = &lines[index];
+    'lines: while index < read.lines.len() {
+        let line = &read.lines[index];
         let here = Asking {
             file: path,
-            text: &file.bytes,
+            text: &read.file.bytes,
             at: line.at,
         };
         let next = line.path.as_str();
@@ -155,7 +192,6 @@ fn visit<S: Sources>(
         visit(alloc, source, folder, next, Some(here), walk)?;
         index += 1;
     }
-    walk.end(alloc, path, file)?;
     Ok(())
 }
 

@@ -7,13 +7,17 @@ use Rattle.pg_link.specs.declared.error.LinkError as errors
 use Rattle.pg_link.specs.declared.error.LinkError.TheVariants as error
 use Rattle.pg_link.specs.declared.walk.Asking as askings
 use Rattle.pg_link.specs.declared.walk.SourceFile as kept
+use Rattle.pg_link.specs.declared.walk.imports.ImportLine as lines
+use Rattle.pg_link.specs.declared.walk.reading.NewFile as news
+use Rattle.pg_link.specs.inner.Made.{line_of}
+use Rattle.pg_link.specs.names.Outline.{file_imports}
 use Rattle.pg_link.specs.declared.walk.Walk as walks
 use Rattle.pg_link.specs.walk.FolderPath.{path_below}
 use Rattle.pg_link.specs.names.Files.{Differ, InOrder, is_path_of, paths_of}
 use Rattle.pg_link.specs.names.Names.{Text}
 use Rattle.pg_link.specs.walk.PostOrder.{AreListed}
 use Rattle.pg_link.specs.Sources.{also}
-use Rattle.pg_link.specs.walk.Walk.{World, ImportsAt, Comes, Entry, files_in_order, outlines, IsAsked, IsEntry, IsPlace, IsReadFault, syntax_place, HasNoTokens, HasNoTree}
+use Rattle.pg_link.specs.walk.Walk.{World, ImportsAt, MayBe, Comes, Entry, files_in_order, outlines, IsAsked, IsEntry, IsPlace, IsReadFault, syntax_place, HasNoTokens, HasNoTree}
 
 -- files that were read, while the imports of these paths are followed
 pub record IsSound (w : World) (open_paths : List Text) (entries : List Entry) : Type 0 where
@@ -85,6 +89,19 @@ ComesLast old new path file = has_path old path ≡ false
 pub record Follows (w : World) (walk : walks.Walk) (asking : Option askings.Asking) (path : Text) : Type 0 where
   pub is_sound : IsSound w (open_paths walk) (entries walk)
   pub asks : Asks w (open_paths walk) asking path
+
+-- the paths that a new file imports
+abbrev pub lines_paths : news.NewFile → List Text
+lines_paths new = map (λ (l : lines.ImportLine). string_bytes l.path) new.lines.items
+
+-- what was read is sound, and the walk is where the imports of this file are followed
+pub record Imports (w : World) (walk : walks.Walk) (path : Text) (new : news.NewFile) : Type 0 where
+  pub before : List Text
+  pub opened : open_paths walk ≡ path ∷ before
+  pub comes : Comes w before path
+  pub is_sound : IsSound w (open_paths walk) (entries walk)
+  pub may_be : MayBe w path new.file.bytes.items new.file.tree
+  pub its : map line_of new.lines.items ≡ file_imports new.file.tree
 
 -- the path is open, or its file was read
 abbrev pub is_begun : walks.Walk → Text → Bool

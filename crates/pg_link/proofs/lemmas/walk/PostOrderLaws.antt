@@ -85,6 +85,10 @@ grown old new more = omega (arith, ap length more.1, length-append (entries old)
 same_listed : (front visited : List Text) (old new : walks.Walk) → entries new ≡ entries old → VisitLists front visited old → VisitLists front visited new
 same_listed front visited old new same = subst (λ (es : List Entry). AreListed front visited (files_in_order es)) (sym same)
 
+-- after the same files in front
+pub same_front : (old begun now : walks.Walk) (visited : List Text) → entries begun ≡ entries old → VisitLists (listed_paths begun) visited now → VisitLists (listed_paths old) visited now
+same_front old begun now visited same = subst (λ (es : List Entry). VisitLists (paths_of (files_in_order es)) visited now) same
+
 -- nothing was visited
 pub none_listed : (old new : walks.Walk) (visited : List Text) → entries new ≡ entries old → visited ≡ [] → VisitLists (listed_paths old) visited new
 none_listed old new visited same none =

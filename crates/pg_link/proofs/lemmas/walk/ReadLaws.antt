@@ -139,6 +139,28 @@ then_new folder x y z old mid first next begun = record {
     new_in p false true in_first in_next has = (or_parts (is_begun old p) (is_path_of first.added p) (sym (begun p) ∙ next.is_new p in_next)).0
     new_in p false false in_first in_next has = absurd (true≢false (sym has))
 
+read_meanwhile : (folder : Text) (x y : Option (List Text)) (old mid : walks.Walk) (all : ReadsAll folder x y old mid) → open_paths mid ≡ open_paths old
+    → (p : Text) → is_begun mid p ≡ (is_begun old p || is_path_of all.reads.added p)
+read_meanwhile folder x y old mid all opened p =
+    ap (λ (ps : List Text). is_path_of ps p || has_path mid p) opened
+    ∙ (ap (λ b. is_path_of (open_paths old) p || b) (all.each p) ∙ grouped (is_path_of (open_paths old) p) (has_path old p) (is_path_of all.reads.added p))
+
+pub all_refused : (folder : Text) (x y z : Option (List Text)) (old mid : walks.Walk) → ReadsAll folder x y old mid → open_paths mid ≡ open_paths old
+    → ReadsNew folder y z mid → ReadsNew folder x z old
+all_refused folder x y z old mid all opened next = then_new folder x y z old mid all.reads next (read_meanwhile folder x y old mid all opened)
+
+pub all_on : (folder : Text) (x y z : Option (List Text)) (old mid now : walks.Walk) → ReadsAll folder x y old mid → open_paths mid ≡ open_paths old
+    → ReadsAll folder y z mid now → ReadsAll folder x z old now
+unfolding all_refused then_new
+all_on folder x y z old mid now all opened after = record {
+  reads = all_refused folder x y z old mid all opened after.reads;
+  count = omega (arith, all.count, after.count, length-append all.reads.added after.reads.added);
+  each = λ p. after.each p
+      ∙ (ap (λ b. b || is_path_of after.reads.added p) (all.each p)
+      ∙ (sym (grouped (has_path old p) (is_path_of all.reads.added p) (is_path_of after.reads.added p))
+      ∙ ap (λ b. has_path old p || b) (sym (among_both p all.reads.added after.reads.added))));
+}
+
 -- while the imports of a path are followed
 pub record IsUnderWay (folder : Text) (before after : Option (List Text)) (old now : walks.Walk) (path : Text) : Type 0 where
   pub reads : ReadsNew folder before after old
@@ -146,7 +168,7 @@ pub record IsUnderWay (folder : Text) (before after : Option (List Text)) (old n
   pub each : (p : Text) → (bytes_eq p path || has_path now p) ≡ (has_path old p || is_path_of reads.added p)
   pub is_unread : has_path now path ≡ false
 
-pub first_way : (folder : Text) (x y : Option (List Text)) (old now : walks.Walk) (path : Text) → is_path_of (open_paths old) path ≡ false → has_path old path ≡ false
+first_way : (folder : Text) (x y : Option (List Text)) (old now : walks.Walk) (path : Text) → is_path_of (open_paths old) path ≡ false → has_path old path ≡ false
     → y ≡ also (path_below folder path ∷ []) x → entries now ≡ entries old → IsUnderWay folder x y old now path
 unfolding one_new
 first_way folder x y old now path closed none adds same =
@@ -162,11 +184,11 @@ begun_meanwhile : (folder : Text) (x y : Option (List Text)) (old now : walks.Wa
     → (p : Text) → is_begun now p ≡ (is_begun old p || is_path_of w.reads.added p)
 begun_meanwhile folder x y old now path w opened p = search (rules, passed, grouped)
 
-pub way_refused : (folder : Text) (x y z : Option (List Text)) (old now : walks.Walk) (path : Text) → IsUnderWay folder x y old now path → open_paths now ≡ path ∷ open_paths old
+way_refused : (folder : Text) (x y z : Option (List Text)) (old now : walks.Walk) (path : Text) → IsUnderWay folder x y old now path → open_paths now ≡ path ∷ open_paths old
     → ReadsNew folder y z now → ReadsNew folder x z old
 way_refused folder x y z old now path w opened next = then_new folder x y z old now w.reads next (begun_meanwhile folder x y old now path w opened)
 
-pub next_way : (folder : Text) (x y z : Option (List Text)) (old mid now : walks.Walk) (path : Text) → IsUnderWay folder x y old mid path → open_paths mid ≡ path ∷ open_paths old
+next_way : (folder : Text) (x y z : Option (List Text)) (old mid now : walks.Walk) (path : Text) → IsUnderWay folder x y old mid path → open_paths mid ≡ path ∷ open_paths old
     → ReadsAll folder y z mid now → IsUnderWay folder x z old now path
 unfolding way_refused then_new
 next_way folder x y z old mid now path w opened after =
@@ -197,6 +219,19 @@ way_done folder x y old mid now path name file w same is =
           ∙ (ap (λ fs. is_path_of (paths_of fs) p) (outlines-push (entries mid) e)
           ∙ (ap (λ (q : Text). bytes_eq p q || has_path mid p) same ∙ w.each p));
     }
+
+-- once its imports were followed, from where it was opened
+pub imports_way : (folder : Text) (x y z : Option (List Text)) (old begun now : walks.Walk) (path : Text) → is_path_of (open_paths old) path ≡ false → has_path old path ≡ false
+    → y ≡ also (path_below folder path ∷ []) x → entries begun ≡ entries old → open_paths begun ≡ path ∷ open_paths old → ReadsAll folder y z begun now
+    → IsUnderWay folder x z old now path
+imports_way folder x y z old begun now path closed none adds same opened all =
+    next_way folder x y z old begun now path (first_way folder x y old begun path closed none adds same) opened all
+
+pub imports_stopped : (folder : Text) (x y z : Option (List Text)) (old begun : walks.Walk) (path : Text) → is_path_of (open_paths old) path ≡ false → has_path old path ≡ false
+    → y ≡ also (path_below folder path ∷ []) x → entries begun ≡ entries old → open_paths begun ≡ path ∷ open_paths old → ReadsNew folder y z begun
+    → ReadsNew folder x z old
+imports_stopped folder x y z old begun path closed none adds same opened next =
+    way_refused folder x y z old begun path (first_way folder x y old begun path closed none adds same) opened next
 
 -- ---- all roots
 

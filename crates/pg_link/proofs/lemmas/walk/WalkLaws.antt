@@ -16,6 +16,7 @@ use Rattle.pg_link.specs.declared.walk.imports.ImportLine as lines
 use Rattle.pg_link.specs.declared.walk.Asking as askings
 use Rattle.pg_link.specs.declared.walk.SourceFile as kept
 use Rattle.pg_link.specs.declared.walk.Walk as walks
+use Rattle.pg_link.specs.declared.walk.reading.NewFile as news
 use Rattle.pg_link.specs.walk.FolderPath.{path_below}
 use Rattle.pg_link.specs.names.Files.{File, Differ, InOrder, is_path_of, paths_of, import_paths}
 use Rattle.pg_link.specs.inner.Made.{line_of}
@@ -23,13 +24,13 @@ use Rattle.pg_link.specs.names.Names.{texts, Text}
 use Rattle.pg_link.specs.names.Outline.{file_imports}
 use Rattle.pg_link.specs.walk.PostOrder.{IsPostOrder}
 use Rattle.pg_link.specs.walk.Walk.{World, Gives, MayBe, ImportsAt, Comes, Reached, MayLead, Stays, Onwards, Entry, IsEntry, outline, outlines, files_in_order, IsAsked, IsAskedAt, IsPlace, IsReadFault, IsLinked, ComesTo, Refuses}
-use Rattle.pg_link.specs.inner.Walking.{entries, open_paths, IsSound, Follows, Asks, IsNewFault, IsTextFault, IsImportFault}
+use Rattle.pg_link.specs.inner.Walking.{Imports, entries, open_paths, IsSound, Follows, Asks, IsNewFault, IsTextFault, IsImportFault}
 use Rattle.pg_link.proofs.lemmas.walk.OrderLaws.{no_cycle}
 use Rattle.pg_link.proofs.lemmas.names.SameBytes.{same_text, differ_turned}
 
 -- ---- who asks
 
-pub comes_of : (w : World) (ps : List Text) (a : Option askings.Asking) (path : Text) → Asks w ps a path → Comes w ps path
+comes_of : (w : World) (ps : List Text) (a : Option askings.Asking) (path : Text) → Asks w ps a path → Comes w ps path
 comes_of w ps a path asks = grind arith
 
 pub reached_of : (w : World) (ps : List Text) (a : Option askings.Asking) (path : Text) → Asks w ps a path → Reached w path
@@ -204,11 +205,26 @@ open_count walk = length-reverse (map string_bytes walk.opened.keys) ∙ length-
 pub take_none : {X : Type 0} (xs : List X) → take 0 xs ≡ []
 take_none xs = grind arith
 
-pub open_one : (w : World) (path : Text) (ps : List Text) (es new : List Entry) → IsSound w ps es → new ≡ es → is_path_of ps path ≡ false
+open_one : (w : World) (path : Text) (ps : List Text) (es new : List Entry) → IsSound w ps es → new ≡ es → is_path_of ps path ≡ false
     → is_path_of (paths_of (outlines es)) path ≡ false → length ps + length es < 1024 → IsSound w (path ∷ ps) new
 open_one w path ps es new sound same open_none none room =
     subst (λ (xs : List Entry). IsSound w (path ∷ ps) xs) (sym same)
     record { each = sound.each; in_order = sound.in_order; apart = apart_from w ps es path sound open_none none; few = omega (arith, room) }
+
+-- a file that was just opened
+pub now_imports : (w : World) (walk begun : walks.Walk) (a : Option askings.Asking) (path : Text) (new : news.NewFile) → Follows w walk a path
+    → entries begun ≡ entries walk → open_paths begun ≡ path ∷ open_paths walk → is_path_of (open_paths walk) path ≡ false
+    → is_path_of (paths_of (outlines (entries walk))) path ≡ false → length (open_paths walk) + length (entries walk) < 1024
+    → MayBe w path new.file.bytes.items new.file.tree → map line_of new.lines.items ≡ file_imports new.file.tree → Imports w begun path new
+now_imports w walk begun a path new f same opened closed none room may_be its = record {
+  before = open_paths walk;
+  opened = opened;
+  comes = comes_of w (open_paths walk) a path f.asks;
+  is_sound = subst (λ (ps : List Text). IsSound w ps (entries begun)) (sym opened)
+      (open_one w path (open_paths walk) (entries walk) (entries begun) f.is_sound same closed none room);
+  may_be = may_be;
+  its = its;
+}
 
 -- ---- a file comes after the others
 
