@@ -61,8 +61,9 @@ IsTextFault path text (error.Syntax e place) = IsPlace place path text (syntax_p
 IsTextFault path text error.Memory = Unit {0}
 IsTextFault path text _ = ⊥
 
--- a fault of reading a path below a folder, where the source may give and lack so, and so many others are there
-abbrev pub IsNewFault : (Text → Text → Bool) → (Text → Bool) → Text → ℕ → Option askings.Asking → Text → errors.LinkError → Type 0
+-- a fault of reading a path below a folder, of what the source may give and lack, where so many other files are there
+abbrev pub IsNewFault : (Text → Text → Bool) → (Text → Bool) → Text → ℕ → Option askings.Asking → Text
+    → errors.LinkError → Type 0
 IsNewFault give lack folder others asking path (error.TooManyFiles place) = IsAsked place asking path × (1024 ≤ others)
     × ((text : Text) × IsTrue (give (path_below folder path) text))
 IsNewFault give lack folder others asking path (error.Lex e place) =

@@ -21,7 +21,7 @@ use pg_syntax::SyntaxError;
 use pg_syntax::tree::FileTree;
 use std::alloc::{AllocError, Global};
 
-/// A file whose imports aren't followed yet, and those.
+/// A file that was read, and its imports, which aren't followed yet.
 #[derive(Drop)]
 pub(crate) struct NewFile {
     pub file: SourceFile,
@@ -142,7 +142,7 @@ fn text_of<S: Sources>(
     }
 }
 
-/// A file with its tree and its imports. So many others are read already, or open.
+/// A file with its tree and its imports. `others` files are read already, or open.
 pub(crate) fn read_new<S: Sources>(
     alloc: Global,
     source: &mut S,
