@@ -1,10 +1,12 @@
 -- What checking functions inside the crate say of a certificate's bytes.
-use Rattle.std.specs.Prelude.{◌≡◌, ◌⊎◌, Bool, IsTrue, string_bytes}
+use Rattle.std.specs.Prelude.{◌≡◌, ◌⊎◌, [], Bool, IsTrue, string_bytes}
 use Rattle.pg_cert.specs.declared.error.CertError.{CertError}
 use Rattle.pg_cert.specs.declared.error.CertError.TheVariants as checks
 use Rattle.pg_link.specs.names.Names.{Text}
+use Rattle.pg_link.specs.walk.Walk.{World, world}
 use Rattle.pg_schema.specs.declared.parts.Parts.{Parts}
 use Rattle.pg_gate.specs.Errors.{IsCallError, IsMemory}
+use Rattle.pg_gate.specs.answer.Grants.{IsCertificateFault, IsGiven}
 use Rattle.pg_gate.specs.answer.Verified.{IsClaimFault, IsFaultOfClaim, IsHeldBy}
 use Rattle.pg_gate.specs.declared.call.error.CallError.{CallError}
 use Rattle.pg_gate.specs.declared.call.error.CertificateFault.{CertificateFault}
@@ -32,22 +34,14 @@ IsUngivenFault lack path fault = ⊥
 abbrev pub IsUngiven : (Text → Bool) → Text → CallError → Type 0
 IsUngiven lack path = IsCallError IsMemory (IsUngivenFault lack path) (λ error. ⊥)
 
--- bytes that a source may give for the path
-pub record IsGivenBy (give : Text → Text → Bool) (path : Text) (holds : Text → Type 0) : Type 0 where
-  pub bytes : Text
-  pub given : IsTrue (give path bytes)
-  pub so : holds bytes
+-- a source that is asked by paths as they are given
+abbrev pub as_given : (Text → Text → Bool) → (Text → Bool) → World
+as_given give lack = world give lack [] []
 
--- what is found of a certificate, whose bytes a source may give for the path
-abbrev pub IsFound : (Text → Text → Bool) → Text → Parts → Parts → Finding → Type 0
-IsFound give path old new finding = IsGivenBy give path (λ bytes. IsHeldBy old new bytes finding)
+-- what is found of a certificate, whose bytes the source may give for the path
+abbrev pub IsFound : World → Text → Parts → Parts → Finding → Type 0
+IsFound w path old new finding = IsGiven w path (λ bytes. IsHeldBy old new bytes finding)
 
--- why a certificate isn't taken: its source gives no bytes, or it may give bytes that are refused
-abbrev pub IsUntakenFault : (Text → Text → Bool) → (Text → Bool) → Text → Parts → Parts → CertificateFault → Type 0
-IsUntakenFault give lack path old new (certificates.Missing file) = (string_bytes file ≡ path) × IsTrue (lack path)
-IsUntakenFault give lack path old new (certificates.Failed file) = string_bytes file ≡ path
-IsUntakenFault give lack path old new (certificates.Refused fault) =
-    IsGivenBy give path (λ bytes. IsClaimFault old new bytes fault)
-
-abbrev pub IsUntaken : (Text → Text → Bool) → (Text → Bool) → Text → Parts → Parts → CallError → Type 0
-IsUntaken give lack path old new = IsCallError IsMemory (IsUntakenFault give lack path old new) (λ error. ⊥)
+-- why a certificate isn't taken, or memory ran out
+abbrev pub IsUntaken : World → Text → Parts → Parts → CallError → Type 0
+IsUntaken w path old new = IsCallError IsMemory (IsCertificateFault w path old new) (λ error. ⊥)

@@ -75,7 +75,7 @@ impl Compiled {
     }
 }
 
-/// The schema of linked files, with these.
+/// The schema of linked files, with its files.
 fn compile_linked(alloc: Global, side: Side, linked: Linked) -> Result<Compiled, GateError>
     ensures declared { IfOk result (λ compiled.
         Declares (linked_sources linked.files) compiled.schema) }

@@ -9,7 +9,7 @@ ghost use Rattle.pg_gate.specs.answer.Files.{paths_in};
 ghost use Rattle.pg_link.specs.walk.Reads.{Reads};
 ghost use Rattle.pg_gate.specs.inner.Sources.{world_of};
 ghost use Rattle.pg_gate.specs.answer.Verified as spec;
-ghost use Rattle.pg_gate.specs.inner.Claims.{IsClaimError, IsClaimRefusal, IsFound, IsUngiven, IsUntaken};
+ghost use Rattle.pg_gate.specs.inner.Claims.{IsClaimError, IsClaimRefusal, IsFound, IsUngiven, IsUntaken, as_given};
 
 use crate::answer::both_sides::{BothSides, compile_both};
 use crate::answer::verified::Verified;
@@ -194,9 +194,10 @@ fn verify_between<S: Sources>(
     source: &mut S,
     path: &str,
 ) -> Result<Finding, CallError>
-    ensures found { IfOk result
-        (IsFound (S.may_give source.old) path.now both.now.old.schema both.now.new.schema) }
-    ensures refused { IfErr result (IsUntaken (S.may_give source.old) (S.may_lack source.old)
+    ensures found { IfOk result (IsFound (as_given (S.may_give source.old) (S.may_lack source.old))
+        path.now both.now.old.schema both.now.new.schema) }
+    ensures refused { IfErr result
+        (IsUntaken (as_given (S.may_give source.old) (S.may_lack source.old))
         path.now both.now.old.schema both.now.new.schema) }
     ensures reads { Reads S.Sources source.old source.new (call_failures Side.Old result) }
 {

@@ -23,8 +23,8 @@ use Rattle.pg_least.specs.Loss.{IsNamed}
 use Rattle.pg_gate.specs.Failures.{call_failures_at}
 use Rattle.pg_gate.specs.answer.Files.{IsSide}
 use Rattle.pg_gate.specs.answer.Grants.{IsSidesFault, IsVerified, IsVerifyError}
-use Rattle.pg_gate.specs.answer.Verified.{HasFirstFault, IsClaimFault, IsFaultOfClaim, IsHeldBy, IsPlaceOf}
-use Rattle.pg_gate.specs.inner.Claims.{IsClaimError, IsClaimRefusal, IsFound, IsUngiven, IsUntaken}
+use Rattle.pg_gate.specs.answer.Verified.{HasFirstFault, IsClaimFault, IsFaultOfClaim, IsPlaceOf}
+use Rattle.pg_gate.specs.inner.Claims.{IsClaimError, IsClaimRefusal, IsFound, IsUngiven, IsUntaken, as_given}
 use Rattle.pg_gate.specs.declared.call.error.CallError.{CallError}
 use Rattle.pg_gate.specs.declared.call.error.CallError.TheVariants as calls
 use Rattle.pg_gate.specs.declared.call.error.CertificateFault.TheVariants as certificates
@@ -140,14 +140,14 @@ module _ (old new : Parts) (bytes : Text) where
 -- ---- a source that is asked for a certificate
 
 module _ (give : Text → Text → Bool) (lack : Text → Bool) (path : Text) (a b : Parts) where
-  pub untaken_ungiven : (error : CallError) → IsUngiven lack path error → IsUntaken give lack path a b error
+  pub untaken_ungiven : (error : CallError) → IsUngiven lack path error → IsUntaken (as_given give lack) path a b error
   untaken_ungiven (calls.Gate error) is = is
   untaken_ungiven (calls.Certificate (certificates.Missing file)) is = is
   untaken_ungiven (calls.Certificate (certificates.Failed file)) is = is
   untaken_ungiven (calls.Certificate (certificates.Refused fault)) is = absurd is
   untaken_ungiven (calls.Bytes error) is = absurd is
 
-  pub untaken_refused : (bytes : Text) → IsTrue (give path bytes) → (error : CallError) → IsClaimError a b bytes error → IsUntaken give lack path a b error
+  pub untaken_refused : (bytes : Text) → IsTrue (give path bytes) → (error : CallError) → IsClaimError a b bytes error → IsUntaken (as_given give lack) path a b error
   untaken_refused bytes given (calls.Gate error) is = is
   untaken_refused bytes given (calls.Certificate (certificates.Missing file)) is = absurd is
   untaken_refused bytes given (calls.Certificate (certificates.Failed file)) is = absurd is
@@ -155,7 +155,7 @@ module _ (give : Text → Text → Bool) (lack : Text → Bool) (path : Text) (a
   untaken_refused bytes given (calls.Bytes error) is = absurd is
 
   -- the new source isn't asked for a certificate
-  pub untaken_uncounted : (error : CallError) → IsUntaken give lack path a b error → call_failures_at sides.New error ≡ 0
+  pub untaken_uncounted : (error : CallError) → IsUntaken (as_given give lack) path a b error → call_failures_at sides.New error ≡ 0
   untaken_uncounted (calls.Gate error) is = of_memory sides.New error is
   untaken_uncounted (calls.Certificate fault) is = refl
   untaken_uncounted (calls.Bytes error) is = absurd is
@@ -163,10 +163,10 @@ module _ (give : Text → Text → Bool) (lack : Text → Bool) (path : Text) (a
 -- ---- sides
 
 module _ (path : Text) (old new : World) (a b : Parts) (of_old : IsSide old a) (of_new : IsSide new b) where
-  pub found_of_files : (finding : Finding) → IsFound old.may_give path a b finding → IsVerified path old new finding
-  found_of_files finding is = record { old_schema = a; new_schema = b; of_old = of_old; of_new = of_new; so = record { bytes = is.bytes; given = is.given; so = is.so } }
+  pub found_of_files : (lack : Text → Bool) (finding : Finding) → IsFound (as_given old.may_give lack) path a b finding → IsVerified path old new finding
+  found_of_files lack finding is = record { old_schema = a; new_schema = b; of_old = of_old; of_new = of_new; so = record { bytes = is.bytes; given = is.given; so = is.so } }
 
-  pub untaken_of_files : (error : CallError) → IsUntaken old.may_give old.may_lack path a b error → IsVerifyError path old new error
+  pub untaken_of_files : (error : CallError) → IsUntaken (as_given old.may_give old.may_lack) path a b error → IsVerifyError path old new error
   untaken_of_files (calls.Gate error) is = memory_is ⊥ ⊥ ⊥ (IsSidesFault old new) error is
   untaken_of_files (calls.Certificate (certificates.Missing file)) is = record { old_schema = a; new_schema = b; of_old = of_old; of_new = of_new; so = is }
   untaken_of_files (calls.Certificate (certificates.Failed file)) is = record { old_schema = a; new_schema = b; of_old = of_old; of_new = of_new; so = is }

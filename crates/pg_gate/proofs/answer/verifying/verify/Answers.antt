@@ -1,11 +1,11 @@
-use Rattle.std.proofs.Common.{◌≡◌, Bool, subst}
+use Rattle.std.proofs.Common.{Bool, subst}
 use Rattle.std.proofs.lemmas.Result.{IfErr-weaker, IfOk-weaker}
 use Rattle.std.specs.Prelude.{IfErr, IfOk}
 use Rattle.pg_link.specs.names.Names.{Text}
 use Rattle.pg_gate.specs.Failures.{call_failures_at}
 use Rattle.pg_gate.specs.answer.Files.{paths_in}
 use Rattle.pg_gate.specs.inner.Sources.{world_of}
-use Rattle.pg_gate.specs.inner.Claims.{IsFound, IsUntaken}
+use Rattle.pg_gate.specs.inner.Claims.{IsFound, IsUntaken, as_given}
 use Rattle.pg_gate.specs.declared.error.Side.TheVariants as sides
 use Rattle.pg_gate.proofs.lemmas.ErrorLemmas.{none_counted}
 use Rattle.pg_gate.proofs.lemmas.answer.SourceLemmas.{no_more, then}
@@ -28,8 +28,9 @@ returns-in-Ok-clause-found g c =
     let path = c.args.certificate.now in
     let a = c.in-Ok.both.old.schema in
     let b = c.in-Ok.both.new.schema in
-    let found = subst (λ (give : Text → Text → Bool). IfOk c.verify_between.result (IsFound give path a b)) c.in-Ok.ensures.old_reads.same_given c.verify_between.ensures.found in
-    IfOk-weaker c.verify_between.result _ _ (λ finding is. found_of_files path old new a b c.in-Ok.ensures.old_compiled c.in-Ok.ensures.new_compiled finding is) found
+    let lack = g.S.Sources.may_lack c.compile_both.new.old in
+    let found = subst (λ (give : Text → Text → Bool). IfOk c.verify_between.result (IsFound (as_given give lack) path a b)) c.in-Ok.ensures.old_reads.same_given c.verify_between.ensures.found in
+    IfOk-weaker c.verify_between.result _ _ (λ finding is. found_of_files path old new a b c.in-Ok.ensures.old_compiled c.in-Ok.ensures.new_compiled lack finding is) found
 
 pub returns-in-Ok-clause-refused : goal.returns-in-Ok-clause-refused
 returns-in-Ok-clause-refused g c =
@@ -39,8 +40,8 @@ returns-in-Ok-clause-refused g c =
     let a = c.in-Ok.both.old.schema in
     let b = c.in-Ok.both.new.schema in
     let reads = c.in-Ok.ensures.old_reads in
-    let asked = subst (λ (give : Text → Text → Bool). IfErr c.verify_between.result (IsUntaken give (g.S.Sources.may_lack c.compile_both.new.old) path a b)) reads.same_given c.verify_between.ensures.refused in
-    let refused = subst (λ (lack : Text → Bool). IfErr c.verify_between.result (IsUntaken old.may_give lack path a b)) reads.same_lacked asked in
+    let asked = subst (λ (give : Text → Text → Bool). IfErr c.verify_between.result (IsUntaken (as_given give (g.S.Sources.may_lack c.compile_both.new.old)) path a b)) reads.same_given c.verify_between.ensures.refused in
+    let refused = subst (λ (lack : Text → Bool). IfErr c.verify_between.result (IsUntaken (as_given old.may_give lack) path a b)) reads.same_lacked asked in
     IfErr-weaker c.verify_between.result _ _ (λ error is. untaken_of_files path old new a b c.in-Ok.ensures.old_compiled c.in-Ok.ensures.new_compiled error is) refused
 
 pub returns-in-Ok-clause-old_reads : goal.returns-in-Ok-clause-old_reads
@@ -54,5 +55,5 @@ returns-in-Ok-clause-new_reads g c =
     let path = c.args.certificate.now in
     let a = c.in-Ok.both.old.schema in
     let b = c.in-Ok.both.new.schema in
-    let none = none_counted c.verify_between.result (λ e. IsUntaken give lack path a b e) (call_failures_at sides.New) (λ e is. untaken_uncounted give lack path a b e is) c.verify_between.ensures.refused in
+    let none = none_counted c.verify_between.result (λ e. IsUntaken (as_given give lack) path a b e) (call_failures_at sides.New) (λ e is. untaken_uncounted give lack path a b e is) c.verify_between.ensures.refused in
     no_more g.T.Sources c.args.new.now _ _ none c.in-Ok.ensures.new_reads

@@ -2,7 +2,7 @@ use Rattle.std.proofs.Common.{◌≡◌, subst, sym}
 use Rattle.std.proofs.lemmas.Result.{IfErr-weaker, IfOk-weaker}
 use Rattle.std.specs.Prelude.{IsTrue}
 use Rattle.pg_gate.specs.Failures.{call_failures_at}
-use Rattle.pg_gate.specs.inner.Claims.{IsClaimError, IsUntaken}
+use Rattle.pg_gate.specs.inner.Claims.{IsClaimError, IsUntaken, as_given}
 use Rattle.pg_gate.specs.declared.call.error.CallError.{CallError}
 use Rattle.pg_gate.specs.declared.error.Side.TheVariants as sides
 use Rattle.pg_gate.proofs.lemmas.call.CallLemmas.{IfErr-IsErrAnd}
@@ -19,9 +19,9 @@ returns-in_err-bytes-clause-refused g c =
     let a = c.args.both.now.old.schema in
     let b = c.args.both.now.new.schema in
     let error : CallError = c.in_err-bytes.field-0.0 in
-    let told : IsUntaken give lack path a b error = untaken_ungiven give lack path a b error c.in_err-bytes.ensures.refused in
-    IfErr-IsErrAnd c.from_residual.result (λ e. e ≡ error) (λ e. IsUntaken give lack path a b e) c.from_residual.ensures.1
-    (λ e same. subst (λ e. IsUntaken give lack path a b e) (sym same) told)
+    let told : IsUntaken (as_given give lack) path a b error = untaken_ungiven give lack path a b error c.in_err-bytes.ensures.refused in
+    IfErr-IsErrAnd c.from_residual.result (λ e. e ≡ error) (λ e. IsUntaken (as_given give lack) path a b e) c.from_residual.ensures.1
+    (λ e same. subst (λ e. IsUntaken (as_given give lack) path a b e) (sym same) told)
 
 pub returns-in_err-bytes-clause-reads : goal.returns-in_err-bytes-clause-reads
 returns-in_err-bytes-clause-reads g c =
