@@ -26,12 +26,10 @@ import stamp  # noqa: E402
 import times  # noqa: E402
 from crates import crates_of  # noqa: E402
 from kit import KEPT, copy_parts, link_built  # noqa: E402
-from machine import free_memory, lanes, missing, processors  # noqa: E402
+from machine import jobs, lanes, missing, processors  # noqa: E402
 
 TOP = os.path.dirname(os.path.dirname(os.path.realpath(__file__)))
 PROGRAM = stamp.PROGRAM
-# What a check is likely to take of memory at most, in bytes.
-CHECK = 4_000_000_000
 # What a build takes of the disk while it runs, and what it leaves at most, in bytes.
 DISK, MOST_LEFT = 6_000_000_000, 4_000_000_000
 # The status with which the program ends after its help.
@@ -98,33 +96,28 @@ class Build:
         much = {it: sum(costs.get(it, times.UNKNOWN)[kind] for kind in ("proof", "programs")) for it in self.names}
         self.longest = times.chains(much, below)
         # (a check with several jobs is faster, but not by as much)
-        speed = 1 + 0.45 * (min(MOST_JOBS, self.jobs()) - 1)
+        speed = 1 + 0.45 * (min(MOST_JOBS, jobs(is_alone=False)) - 1)
         much = {it: seconds / speed for it, seconds in much.items()}
         self.progress = times.Progress({"crates": (much, below)}, max(1, round(lanes() / speed)), say)
 
-    @staticmethod
-    def jobs():
-        """Returns how many jobs a check may have: nearly one a processor, since its last functions are mostly proved one after the other. So checks that run
-        side by side fill each other's gaps."""
-        return max(1, min(processors() - 1, free_memory() // CHECK))
-
     def choose(self):
         """Returns the crates whose check can begin now, those with the longest chain of others first."""
-        most = max(1, min(processors(), free_memory() // CHECK + len(self.running)))
         ready = [it for it in self.left if it not in self.running and not any(dep.name in self.left for dep in self.said[it].deps)]
-        return sorted(ready, key=lambda it: -self.longest[it])[: max(0, most - len(self.running))]
+        return sorted(ready, key=lambda it: -self.longest[it])[: max(0, lanes(len(self.running)) - len(self.running))]
 
     def start_ready(self):
         """Starts the checks that can begin now."""
-        for name in self.choose():
+        chosen = self.choose()
+        many = jobs(is_alone=len(chosen) + len(self.running) == 1)
+        for name in chosen:
             taken = set().union(*(claims(it, self.said) for it in self.running))
             folder = f"{TOP}/crates/{name}" if taken.isdisjoint(claims(name, self.said)) else open_lane(name, self.said)
-            self.begin(name, folder)
+            self.begin(name, folder, many)
             say(f"proving {name} ({len(self.left)} of {len(self.names)} crates left)")
 
-    def begin(self, name, folder):
+    def begin(self, name, folder, many):
         """Starts the crate's check. A program is run as soon as it is built: its help says that it is there."""
-        words = ["rt", "run", "--", "--help"] if name == PROGRAM else ["rt", "lib", "--jobs", str(self.jobs())]
+        words = ["rt", "run", "--", "--help"] if name == PROGRAM else ["rt", "lib", "--jobs", str(many)]
         self.progress.begin(name)
         with open(f"{self.room}/{name}", "w", encoding="utf-8") as log:
             how = {"stdin": subprocess.DEVNULL, "stdout": log, "stderr": subprocess.STDOUT}

@@ -1,7 +1,7 @@
 #!/usr/bin/env python3
 """Runs the gate (`rt ci`: each proof, the tests and the programs; and the edits that must be refused) and tells what it cost.
 
-usage: tools/prove.py [--anew] [--costs] [CRATE..]    ends with the gate's status, and with its last line, 'N passed, M failed'
+usage: tools/prove.py [--anew [--costs]] [CRATE..]    ends with the gate's status, and with its last line, 'N passed, M failed'
 
 The gate runs on a copy of the repository, or, where crates are named, of these and of those below them. Edits are taken out of the
 copy, and tried afterwards over the libraries that `rt ci` built there, those of a crate in one check or a few (try_edits.py); `rt ci` in
@@ -14,8 +14,8 @@ What earlier runs on this machine passed isn't proved again; with --anew all is 
 
 It says at the start, and each minute, how long it is likely to take. A line of rt follows the seconds since the start. The last lines are the
 processor seconds of each crate by kind: its proof, its seeds (a second proof, where edits are left to `rt ci`), its edits, its tests, and
-what builds and runs programs, with what tries the built ones. With --costs these become what later runs are measured by (costs.txt),
-and the page that has their sums says so (costs_table.py).
+what builds and runs programs, with what tries the built ones, and what belongs to no crate (rt itself, linking). With --costs these become
+what later runs are measured by (costs.txt), and the page that has their sums says so (costs_table.py).
 """
 
 import hashlib
@@ -35,7 +35,7 @@ import child_programs  # noqa: E402
 import kit  # noqa: E402
 import stamp  # noqa: E402
 import times  # noqa: E402
-from costs import KINDS, Costs, print_costs  # noqa: E402
+from costs import KINDS, Costs, others, print_costs  # noqa: E402
 from crates import crates_of  # noqa: E402
 from machine import is_confined, lanes, missing, processors  # noqa: E402
 from try_edits import plan, try_all  # noqa: E402
@@ -60,13 +60,12 @@ TESTERS = (
     "docs/test_costs_table.py",
     "dist/test_packages.py",
     "gate/test_wrong_copies.py",
-    "gate/test_try_edits.py",
     "dist/test_launcher.py",
-    "dist/test_first_answer.py",
     "gate/test_gate.py",
     "gate/test_gate_parts.py",
-    "gate/try_other_kit.py",
 )
+# Testers that check or compile crates. They run beside those above, no more at once than there are processors and memory for.
+CHECKING = ("gate/test_try_edits.py", "dist/test_first_answer.py", "gate/try_other_kit.py")
 # What comes alone, each with its words: what tells how long a first answer of a checkout takes; what tries the program on random inputs, on
 # all processors; and, last, the commands of the documents, of which some waits go by the clock.
 ALONE = (
@@ -145,7 +144,7 @@ def progress_of(room, plans, testers):
     costs, crates = times.read(), crates_of(room)
     proofs = {it: sum(costs.get(it, times.UNKNOWN)[kind] for kind in ("proof", "tests", "programs")) for it in crates}
     edits = {f"edits of {it.crate.name}": max(10, costs.get(it.crate.name, times.UNKNOWN)["edits"]) for it in plans}
-    tried = {it: costs.get("testers", times.UNKNOWN)["programs"] / len(testers) for it in testers}
+    tried = {it: costs.get(times.TESTERS, times.UNKNOWN)["programs"] / len(testers) for it in testers}
     below = {it: [dep.name for dep in crates[it].deps] for it in crates}
     phases = {"crates": (proofs, below), "crates' edits": (edits, dict.fromkeys(edits, ())), "testers": (tried, dict.fromkeys(tried, ()))}
     return times.Progress(phases, lanes(), say)
@@ -243,6 +242,11 @@ def seconds_since(before):
     return after.ru_utime + after.ru_stime - before.ru_utime - before.ru_stime
 
 
+def own_seconds():
+    own = resource.getrusage(resource.RUSAGE_SELF)
+    return own.ru_utime + own.ru_stime
+
+
 def put_back(room, copied, begun):
     """Puts the programs that were built in the room into the repository, where its sources are those that were copied, and notes that. Returns whether it
     did."""
@@ -274,8 +278,8 @@ def try_lent(room):
 
 
 def try_program(progress):
-    """Runs the testers of what `rt ci` built side by side, and then each of those that come alone. Prints what each said and took, in that order.
-    Returns which passed, and what was passed over."""
+    """Runs the testers of what `rt ci` built side by side, those that check crates no more at once than there is room for, and then each of those that
+    come alone. Prints what each said and took. Returns which passed, and what was passed over."""
     passed, over = [], []
 
     def ended(name, run):
@@ -286,9 +290,17 @@ def try_program(progress):
         print(f"{said}{name}: {seconds:.0f} processor seconds", flush=True)
         over.extend(it for it in said.splitlines() if it.startswith("passed over"))
 
-    testers = {it: child_programs.start([f"tools/{it}"], **HOW) for it in TESTERS}
-    for name, tester in testers.items():
-        ended(name, tester)
+    def started(names):
+        return [(it, child_programs.start([f"tools/{it}"], **HOW)) for it in names]
+
+    def wait_for(testers):
+        for name, tester in testers:
+            ended(name, tester)
+
+    testers, at_once = started(TESTERS), lanes()
+    for first in range(0, len(CHECKING), at_once):
+        wait_for(started(CHECKING[first : first + at_once]))
+    wait_for(testers)
     for words in ALONE:
         ended(words[0], child_programs.start(words, **HOW))
     return passed, over
@@ -314,7 +326,7 @@ def prove_all(flags):
         begun = stamp.read_now(".")
         copy_all(room)
         copied, plans = sums(room), take_edits(room)
-        progress = progress_of(room, plans, (*TESTERS, *(it[0] for it in ALONE)))
+        progress = progress_of(room, plans, (*TESTERS, *CHECKING, *(it[0] for it in ALONE)))
         tell_start(progress)
         with progress:
             status, last, table, _ = prove(room, flags, plans, progress)
@@ -324,8 +336,9 @@ def prove_all(flags):
                 if passed[-1]:
                     tried, over = try_program(progress)
                     passed += tried
-                table["testers"] = {**dict.fromkeys(KINDS, 0.0), "programs": seconds_since(tested)}
-    print_costs(table, seconds_since(before))
+                table[times.TESTERS] = {**dict.fromkeys(KINDS, 0.0), "programs": seconds_since(tested)}
+                table[times.OTHERS] = {**dict.fromkeys(KINDS, 0.0), "programs": others(table, seconds_since(before) + own_seconds())}
+    print_costs(table, seconds_since(before) + own_seconds())
     for line in dict.fromkeys(over):
         print(line)
     print(counted(last, sum(passed), len(passed) - sum(passed)))
@@ -351,11 +364,21 @@ def prove_named(names, flags):
     return status, table
 
 
+def measured(table):
+    """Returns the costs to write after a run. A crate that it didn't prove anew, as where the kit kept the proof, keeps its row."""
+    before, none, names = times.read(), dict.fromkeys(times.KINDS, 0), (*crates_of("."), times.TESTERS, times.OTHERS)
+    found = {it: {**row, "proof": row["proof"] + row["seeds"]} for it, row in table.items() if row["proof"] or it in (times.TESTERS, times.OTHERS)}
+    return {it: found.get(it) or before.get(it, none) for it in names}
+
+
 def main():
     names = [it for it in sys.argv[1:] if not it.startswith("--")]
     unknown = {*sys.argv[1:]} - {*names, "--anew", "--costs"}
     if unknown:
         print(f"unknown: {' '.join(sorted(unknown))}\n\n{__doc__}", file=sys.stderr)
+        return 2
+    if "--costs" in sys.argv and "--anew" not in sys.argv:
+        print("--costs goes with --anew: what is kept from earlier runs isn't measured", file=sys.stderr)
         return 2
     flags = ["--anew"] * ("--anew" in sys.argv)
     places = {tempfile.gettempdir(): DISK_OF_SOME if names else DISK}
@@ -366,9 +389,7 @@ def main():
     child_programs.on_signals()
     status, table = prove_named(names, flags) if names else prove_all(flags)
     if status == 0 and "--costs" in sys.argv:
-        kept = {} if not names else times.read()
-        found = {it: {**row, "proof": row["proof"] + row["seeds"]} for it, row in table.items()}
-        times.write({**kept, **found})
+        times.write(measured(table))
         subprocess.run(["tools/docs/costs_table.py", "--write"], check=False)
     return status
 

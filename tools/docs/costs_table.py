@@ -23,9 +23,7 @@ PAGE = "docs/LIMITS.md"
 # The first line of the table.
 HEAD = f"| Processor seconds | {' | '.join(times.KINDS)} | all |"
 # What has a row of its own beside the layers of the product, by the beginning of its crates' names.
-OTHERS = (("`promises_*`", "promises_"), ("`rows_*`", "rows_"), ("`tests_*`, `kit_*`, `examples_*`", ("tests_", "kit_", "examples_")))
-# What tries the built program, as costs.txt calls it.
-TESTERS = "testers"
+BY_PREFIX = (("`promises_*`", "promises_"), ("`rows_*`", "rows_"), ("`tests_*`, `kit_*`, `examples_*`", ("tests_", "kit_", "examples_")))
 # So many times the seconds of the machine for which the budget is were taken where costs.txt was measured, by crates that hadn't changed.
 SLOWER = 1.31
 # What a whole gate may take there, what it should take, and what a build of the program should take, in processor seconds.
@@ -37,8 +35,8 @@ def groups():
     names = [*crates_of(TOP)]
     layers = layers_of([it for it in names if it.startswith("pg_") or it == PROGRAM])
     found = [(", ".join(f"`{it}`" for it in layer), layer) for layer in layers]
-    found += [(said, [it for it in names if it.startswith(begin)]) for said, begin in OTHERS]
-    return [*found, ("what tries the built program", [TESTERS])]
+    found += [(said, [it for it in names if it.startswith(begin)]) for said, begin in BY_PREFIX]
+    return [*found, ("what tries the built program", [times.TESTERS]), ("`rt` itself, linking, runs of programs", [times.OTHERS])]
 
 
 def row(said, seconds):

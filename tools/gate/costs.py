@@ -87,13 +87,18 @@ class Costs:
         return found
 
 
+def others(table, whole):
+    """Returns the seconds, of so many in all, that belong to no row of the table: rt itself, linking, the runs of programs."""
+    return max(0.0, whole - sum(sum(row.values()) for row in table.values()))
+
+
 def print_costs(table, whole):
-    """Prints a line for each crate and one for the sum; what no check took (rt itself, linking, the runs, testers) counts among programs."""
+    """Prints a line for each row of the table and one for the sum; what belongs to none counts among programs."""
     print(f"{'processor seconds':24}" + "".join(f"{it:>10}" for it in (*KINDS, "whole")))
     sums = dict.fromkeys(KINDS, 0.0)
     for crate, row in sorted(table.items(), key=lambda it: -sum(it[1].values())):
         print(f"{crate:24}" + "".join(f"{it:10.0f}" for it in (*row.values(), sum(row.values()))))
         sums = {kind: sums[kind] + row[kind] for kind in KINDS}
-    sums["programs"] += max(0.0, whole - sum(sums.values()))
+    sums["programs"] += others(table, whole)
     print(f"{'sum':24}" + "".join(f"{it:10.0f}" for it in (*sums.values(), whole)))
     print("; ".join(f"{kind} {seconds:.0f}" for kind, seconds in sums.items()) + f"; whole {whole:.0f} processor seconds")

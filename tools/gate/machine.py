@@ -7,6 +7,8 @@ import tempfile
 
 # What a check is likely to take of memory at most, in bytes: 3.1 GB were seen.
 CHECK = 5_000_000_000
+# What a further job of a check is likely to take at most, in bytes.
+JOB = 1_500_000_000
 # By the version of control groups: the files of a group that limit its processors and its memory, those that tell what it uses, and the word
 # of the part of this that can be taken back at once.
 LIMITS = {
@@ -82,11 +84,23 @@ def is_confined(root=""):
     return any(it < whole for it in limits)
 
 
+def asked():
+    """Returns how many checks the user asks to run side by side, by RT_JOBS: 0 where that isn't said."""
+    words = os.environ.get("RT_JOBS", "")
+    return max(1, int(words)) if words.isdecimal() else 0
+
+
 def lanes(running=0):
     """Returns how many checks may run side by side: RT_JOBS, or one a processor, as many as there is memory for beside those that run."""
-    if os.environ.get("RT_JOBS", "").isdigit():
-        return max(1, int(os.environ["RT_JOBS"]))
-    return max(1, min(processors(), free_memory() // CHECK + running))
+    return asked() or max(1, min(processors(), free_memory() // CHECK + running))
+
+
+def jobs(is_alone):
+    """Returns how many jobs a check may have: RT_JOBS, or one a processor, where it runs alone, else one less. A check's last functions are mostly
+    proved one after the other, so checks that run side by side fill each other's gaps. There has to be memory for each further job."""
+    most = asked() or processors()
+    fitting = most if asked() else 1 + max(0, free_memory() - CHECK) // JOB
+    return max(1, min(fitting, most - (not is_alone)))
 
 
 def is_writable(folder):

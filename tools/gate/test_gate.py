@@ -187,6 +187,16 @@ class Builds(Room):
         self.assertEqual(os.listdir(f"{self.top}/crates/low/out"), ["rlib"])
         self.assertIn(" minute", said.splitlines()[0])
 
+    def test_a_check_that_runs_alone_has_a_job_for_each_processor(self):
+        """Those that run side by side have one less."""
+        write(f"{self.room}/kit/rt", RT.replace("wait_a_while lib", 'wait_a_while "$3"'))
+        for crates, jobs in (("low:\nprotogate: low\n", ["3"]), ("low:\nhigh:\nprotogate: low high\n", ["2", "2"])):
+            write(f"{self.top}/crates.txt", crates)
+            write(f"{self.top}/crates/high/src/lib.rt", "fn high() {}\n")
+            status, said = self.run_to_end("build.py", RT_JOBS="3")
+            self.assertEqual((status, self.begun()), (0, [*jobs, "run"]), said)
+            os.remove(self.log)
+
     def test_no_more_is_left_than_is_allowed(self):
         for name, much in (("low", 30_000), ("high", 90_000), ("protogate", 60_000)):
             write(f"{self.top}/crates/{name}/out/made", "x" * much)
@@ -241,10 +251,50 @@ class Gates(Room):
             self.wait_for(lambda: len(said) > before + 1)
         self.assertEqual((said[0], said[-1]), ("done: 0 of 2 crates; some 3 minutes left", "done: 1 of 2 crates; some 2 minutes left"))
 
+    def test_what_is_left_goes_by_the_pace_of_the_machine(self):
+        """What was kept, and what is too little, tells nothing of it."""
+        tasks = {"low": 100, "kept": 900, "little": 1, "rest": 600}
+        progress = times.Progress({"crates": (tasks, dict.fromkeys(tasks, ()))}, 1, print)
+        now = 10_000
+        with mock.patch("time.monotonic", lambda: now):
+            self.assertEqual(progress.left(), 1601)
+            for name, took in (("little", 5), ("kept", 1), ("low", 50)):
+                progress.begun[name] = now - took
+                progress.end(name)
+                self.assertEqual(progress.pace(), 1)
+            progress.phases["others"] = ({"other": 200}, {"other": ()})
+            progress.begun["other"] = now - 547
+            progress.end("other")
+            self.assertEqual((progress.pace(), progress.left()), (2, 1200))
 
+    def test_a_crate_that_was_kept_keeps_its_costs(self):
+        before = {it: dict.fromkeys(times.KINDS, 7) for it in ("low", "protogate", "gone", times.TESTERS, times.OTHERS)}
+        took = {it: {"proof": 2.0, "seeds": 1.0, "edits": 4.0, "tests": 0.0, "programs": 0.0} for it in ("low", "protogate", "unknown")}
+        kept = {**took, "low": {**took["low"], "proof": 0.0}}
+        rest = {it: {**dict.fromkeys(prove.KINDS, 0.0), "programs": 5.0} for it in (times.TESTERS, times.OTHERS)}
+        new, old, others = [3, 4, 0, 0], [7, 7, 7, 7], [0, 0, 0, 5]
+        with mock.patch("times.read", lambda: before), mock.patch("prove.crates_of", lambda top: {"low": None, "protogate": None}):
+            for table, wanted in (({**took, **rest}, [new, new, others, others]), ({**kept, **rest}, [old, new, others, others]), (took, [new, new, old, old])):
+                found = prove.measured(table)
+                self.assertEqual([*found], ["low", "protogate", times.TESTERS, times.OTHERS])
+                self.assertEqual([[row[kind] for kind in times.KINDS] for row in found.values()], wanted)
+
+    def test_costs_are_of_what_is_proved_anew(self):
+        status, said = self.run_to_end("prove.py", "--costs", "protogate")
+        self.assertEqual((status, self.begun()), (2, []), said)
+
+
+# Notes its begin and its end, which comes once two have begun, or after so many seconds.
+NOTED = """import os, time
+log, until = os.environ['RT_LOG'], time.monotonic() + {patience}
+open(log, 'a').write('begun\\n')
+while open(log).read().count('begun') < 2 and time.monotonic() < until:
+    time.sleep(0.02)
+open(log, 'a').write('ended\\n')
+"""
 # Runs the whole gate with these testers alone, and without what it says of documents and of messages that borrow.
 WHOLE = """import sys, prove
-prove.COMPARED, prove.TESTERS, prove.ALONE = (), ("one.py", "two.py"), (("tools/three.py",), ("tools/four.py",))
+prove.COMPARED, prove.TESTERS, prove.CHECKING, prove.ALONE = (), ("one.py", "two.py"), ("five.py", "six.py"), (("tools/three.py",), ("tools/four.py",))
 prove.try_lent = lambda room: True
 sys.exit(prove.prove_all([])[0])
 """
@@ -254,7 +304,7 @@ class WholeGates(Room):
     """The whole gate, over testers of the tests' own."""
 
     def run_whole(self, **testers):
-        for name in ("one", "two", "three", "four"):
+        for name in ("one", "two", "three", "four", "five", "six"):
             write(f"{self.top}/tools/{name}.py", f"#!/usr/bin/env python3\nimport sys\n{testers.get(name, '')}\n")
             os.chmod(f"{self.top}/tools/{name}.py", 0o755)
         env = {**self.env, "PYTHONPATH": f"{self.top}/tools"}
@@ -264,15 +314,31 @@ class WholeGates(Room):
     def test_what_all_testers_pass(self):
         begun = time.time_ns() - 20_000_000
         status, said = self.run_whole(two="print('passed over, without fish: a test')", four="print(open('crates/protogate/out/protogate').read())")
-        self.assertEqual((status, said[-2:]), (0, ["passed over, without fish: a test", "8 passed, 0 failed"]), said)
+        self.assertEqual((status, said[-2:]), (0, ["passed over, without fish: a test", "10 passed, 0 failed"]), said)
         self.assertIn("proved", said)
+        costs = {it.split()[0]: int(it.split()[-1]) for it in said if it.startswith(("testers ", "others ", "sum "))}
+        self.assertEqual(sorted(costs), ["others", "sum", "testers"])
+        self.assertLessEqual(abs(costs["testers"] + costs["others"] - costs["sum"]), 1, said)
+        self.assertGreaterEqual(costs["others"], 0)
         self.assertTrue(begun < os.stat(f"{self.out}/protogate.begun").st_mtime_ns)
         self.assertEqual(os.listdir(self.made), [])
 
     def test_what_a_tester_fails(self):
-        for name in ("one", "three", "four"):
+        for name in ("one", "three", "four", "six"):
             status, said = self.run_whole(**{name: "sys.exit(1)"})
-            self.assertEqual((status, said[-1]), (1, "7 passed, 1 failed"), said)
+            self.assertEqual((status, said[-1]), (1, "9 passed, 1 failed"), said)
+
+    def test_no_more_check_at_once_than_there_is_room_for(self):
+        for jobs, patience, wanted in (("1", 1, ["begun", "ended"] * 2), ("2", PATIENCE, ["begun"] * 2 + ["ended"] * 2)):
+            self.env["RT_JOBS"], noted = jobs, NOTED.format(patience=patience)
+            status, said = self.run_whole(five=noted, six=noted)
+            self.assertEqual((status, [it for it in self.begun() if it != "ci"]), (0, wanted), said)
+            os.remove(self.log)
+
+    def test_what_only_tries_the_program_runs_beside_what_checks_crates(self):
+        noted = NOTED.format(patience=PATIENCE)
+        status, said = self.run_whole(one=noted, five=noted)
+        self.assertEqual((status, [it for it in self.begun() if it != "ci"]), (0, ["begun"] * 2 + ["ended"] * 2), said)
 
     def test_what_is_changed_meanwhile(self):
         write(f"{self.room}/kit/rt", RT.replace("ci)\n", f"ci)\n        echo >>{self.top}/crates/low/src/lib.rt\n", 1))

@@ -5,6 +5,7 @@ edits, and the tables of definitions.
 usage: tools/gate/test_gate_parts.py    a few seconds
 """
 
+import glob
 import os
 import shutil
 import subprocess
@@ -15,6 +16,7 @@ from unittest import mock
 
 sys.dont_write_bytecode = True
 sys.path += [f"{os.path.dirname(os.path.realpath(__file__))}/{it}" for it in ("..", "../docs")]
+import costs  # noqa: E402
 import held_edits  # noqa: E402
 import kit  # noqa: E402
 import machine  # noqa: E402
@@ -76,6 +78,13 @@ class Containers(unittest.TestCase):
                 with mock.patch.dict(os.environ, RT_JOBS=jobs):
                     self.assertEqual(machine.lanes(), wanted)
 
+    def test_jobs_of_a_check(self):
+        for processors, free, asked, wanted in ((4, 20, "", [4, 3]), (2, 20, "", [2, 1]), (1, 20, "", [1, 1]), (8, 11, "", [5, 5]), (4, 7, "", [2, 2]),
+                                                (4, 3, "", [1, 1]), (4, 3, "3", [3, 2]), (4, 20, "1", [1, 1])):
+            there = {"processors": lambda: processors, "free_memory": lambda: free * 1_000_000_000}
+            with mock.patch.multiple(machine, **there), mock.patch.dict(os.environ, RT_JOBS=asked):
+                self.assertEqual([machine.jobs(is_alone) for is_alone in (True, False)], wanted)
+
 
 class Jobs(unittest.TestCase):
     """What rt is told of its jobs."""
@@ -106,14 +115,31 @@ class Times(unittest.TestCase):
         self.assertEqual(times.chains(seconds, below), {"a": 30, "b": 20, "c": 5, "d": 5})
 
     def test_what_is_written_is_read_again(self):
-        table = {"low": dict(zip(times.KINDS, (5, 6, 7, 8))), "testers": dict(zip(times.KINDS, (0, 0, 0, 9)))}
+        table = {"low": dict(zip(times.KINDS, (5, 6, 7, 8))), times.TESTERS: dict(zip(times.KINDS, (0, 0, 0, 9)))}
         with tempfile.TemporaryDirectory() as room:
             times.write(table, f"{room}/costs.txt")
+            self.assertEqual(times.read(f"{room}/costs.txt"), table)
+            with open(f"{room}/costs.txt", "a", encoding="utf-8") as file:
+                file.write("\nshort 1 2 3\n<<<<<<< one side\nhigh one two three four\n")
             self.assertEqual(times.read(f"{room}/costs.txt"), table)
 
     def test_each_crate_has_its_costs(self):
         lines = [it.partition(":")[0].split()[0] for it in text_of(f"{TOP}/crates.txt").splitlines() if ":" in it.partition("#")[0]]
-        self.assertEqual({*times.read()}, {*lines, "testers"})
+        self.assertEqual({*times.read()}, {*lines, times.TESTERS, times.OTHERS})
+        with tempfile.TemporaryDirectory() as room:
+            times.write(times.read(), f"{room}/costs.txt")
+            self.assertEqual(text_of(f"{room}/costs.txt"), text_of(times.COSTS))
+
+    def test_what_belongs_to_no_crate(self):
+        table = {"low": {"proof": 3.0, "edits": 2.0}, times.TESTERS: {"programs": 1.0}}
+        self.assertEqual([costs.others(table, it) for it in (9, 6, 5)], [3, 0, 0])
+
+
+class Testers(unittest.TestCase):
+    def test_each_test_of_the_tools_is_run_once(self):
+        there = [os.path.relpath(it, f"{TOP}/tools") for it in glob.glob(f"{TOP}/tools/*/test_*.py")]
+        run = [*prove.TESTERS, *prove.CHECKING, *(words[0].partition("/")[2] for words in prove.ALONE)]
+        self.assertEqual(sorted(it for it in run if "/test_" in it), sorted(there))
 
 
 class Kept(Room):

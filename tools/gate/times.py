@@ -8,24 +8,27 @@ COSTS = f"{os.path.dirname(os.path.realpath(__file__))}/costs.txt"
 KINDS = ("proof", "edits", "tests", "programs")
 # What a crate that isn't listed is likely to take, by kind.
 UNKNOWN = dict(zip(KINDS, (60, 0, 0, 10)))
-HEAD = """# Processor seconds of each crate by kind, from nothing; the last line is what tries the built program. They are written by
-# tools/prove.py --costs, and tell it and tools/build.py how long a run is likely to take.
+# The rows that are no crate's: what tries the built program, and what belongs to no crate (rt itself, linking, the runs of programs).
+TESTERS, OTHERS = "testers", "others"
+HEAD = """# Processor seconds of each crate by kind, from nothing; the last two lines are what tries the built program, and what belongs to no
+# crate (rt itself, linking, the runs of programs). They are written by tools/prove.py --costs, and tell it and tools/build.py how long
+# a run is likely to take.
 """
 
 
 def read(path=COSTS):
-    """Returns the seconds of each crate by kind."""
+    """Returns the seconds of each crate by kind. Other lines are passed over: the seconds only tell how long a run is likely to take."""
     found = {}
     with open(path, encoding="utf-8") as file:
-        for line in (it.partition("#")[0].split() for it in file):
-            if line and line[0] != "crate":
-                found[line[0]] = dict(zip(KINDS, map(int, line[1:])))
+        for name, *seconds in (it.split() for it in file if it.strip()):
+            if len(seconds) == len(KINDS) and all(it.isdecimal() for it in seconds):
+                found[name] = dict(zip(KINDS, map(int, seconds)))
     return found
 
 
 def write(table, path=COSTS):
     """Writes the seconds of each crate by kind."""
-    names = sorted(table, key=lambda it: (it == "testers", -sum(table[it].values()), it))
+    names = sorted(table, key=lambda it: ((TESTERS, OTHERS).index(it) + 1 if it in (TESTERS, OTHERS) else 0, -sum(table[it].values()), it))
     rows = [["crate", *KINDS], *([it, *(str(round(table[it].get(kind, 0))) for kind in KINDS)] for it in names)]
     with open(path, "w", encoding="utf-8") as file:
         file.write(HEAD + "".join(f"{row[0]:22}" + "".join(f"{it:>10}" for it in row[1:]) + "\n" for row in rows))
@@ -66,22 +69,34 @@ def in_words(seconds):
 class Progress:
     """What is done and what is left, in phases one after the other: each has tasks with their seconds, and what each waits for."""
 
+    # Tasks tell the pace of a machine once they have so many seconds together. One that took less than this part of its seconds was kept from earlier runs.
+    ENOUGH, KEPT = 120, 0.2
+
     def __init__(self, phases, lanes, say, pause=60):
         self.phases, self.lanes, self.say, self.pause = phases, lanes, say, pause
-        self.begun, self.done, self.is_over = {}, set(), threading.Event()
+        self.begun, self.done, self.took, self.is_over = {}, set(), {}, threading.Event()
 
     def begin(self, name):
         self.begun.setdefault(name, time.monotonic())
 
     def end(self, name):
+        if name in self.begun and name not in self.done:
+            self.took[name] = time.monotonic() - self.begun[name]
         self.done.add(name)
+
+    def pace(self):
+        """Returns how many times as long as expected the tasks took that have ended."""
+        expected = {it: much for seconds, _ in self.phases.values() for it, much in seconds.items()}
+        told = {it: took for it, took in self.took.copy().items() if it in expected and took > self.KEPT * expected[it]}
+        much = sum(expected[it] for it in told)
+        return sum(told.values()) / much if much >= self.ENOUGH else 1
 
     def left(self):
         """Returns how many seconds are likely to be left, of which those that tasks have run count as done."""
-        whole = 0
+        whole, pace = 0, self.pace()
         for seconds, below in self.phases.values():
             now = time.monotonic()
-            rest = {it: max(1, much - (now - self.begun.get(it, now))) for it, much in seconds.items() if it not in self.done}
+            rest = {it: max(1, pace * much - (now - self.begun.get(it, now))) for it, much in seconds.items() if it not in self.done}
             whole += clock(rest, {it: [at for at in below[it] if at in rest] for it in rest}, self.lanes)
         return whole
 
