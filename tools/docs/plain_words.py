@@ -50,7 +50,7 @@ RULED_OUT = {
 }
 PAGES, COMMENTS = "pages and help", "comments"
 # Where help is written: what is in quotes there is printed.
-HELP = "crates/pg_gate/src/call/help.rt"
+HELP = "crates/pg_call/src/help.rt"
 # How comments begin, and what a quoted word is, in which none does, by the file's suffix. A file without a suffix is the shell's.
 QUOTED = r"\"(?:\\.|[^\"\\])*\"|'(?:\\.|[^'\\\n])'"
 C_LIKE = re.compile(QUOTED + r"|(?P<comment>//[^\n]*|/\*.*?\*/)", re.S)

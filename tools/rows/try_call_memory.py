@@ -158,9 +158,9 @@ CALLS = [
          "Name 0801, MapValue 120408001001, breaks M 2"),
     Rows("relay", "rows_view", ["what the new type lacks is handed on"], "relay"),
     Tests("gate_files", "tests_gate", ["a_gate_over_files_answers_one_of_two", "a_gate_over_files_tells_the_old_side_first"]),
-    # The sink is left alone where `run` lacks memory.
-    Tests("run", "tests_gate", ["compiles_again", "shows_again", "verifies_again", "gates_in_both_directions_again", "gates_a_oneof_again",
-                                "gates_all_types_again"]),
+    # The sink is left alone where `run` lacks memory, also where `matches_of` does, which it calls first.
+    Tests("run matches_of", "tests_gate", ["compiles_again", "shows_again", "verifies_again", "gates_in_both_directions_again",
+                                           "gates_a_oneof_again", "gates_all_types_again"]),
 ]
 
 

@@ -1,10 +1,10 @@
 -- The failures of their sources that errors report.
 use Rattle.std.specs.Prelude.{ℕ, Result, Ok, Err}
 use Rattle.pg_link.specs.walk.Walk.{failures_of}
-use Rattle.pg_gate.specs.declared.call.error.CallError.{CallError}
-use Rattle.pg_gate.specs.declared.call.error.CallError.TheVariants as calls
-use Rattle.pg_gate.specs.declared.call.error.CertificateFault.{CertificateFault}
-use Rattle.pg_gate.specs.declared.call.error.CertificateFault.TheVariants as certificates
+use Rattle.pg_gate.specs.declared.call_error.CallError.{CallError}
+use Rattle.pg_gate.specs.declared.call_error.CallError.TheVariants as calls
+use Rattle.pg_gate.specs.declared.call_error.CertificateFault.{CertificateFault}
+use Rattle.pg_gate.specs.declared.call_error.CertificateFault.TheVariants as certificates
 use Rattle.pg_gate.specs.declared.error.Fault.{Fault}
 use Rattle.pg_gate.specs.declared.error.Fault.TheVariants as faults
 use Rattle.pg_gate.specs.declared.error.GateError.{GateError}

@@ -1,7 +1,7 @@
 -- What a run does to its sink.
 use Rattle.std.specs.Prelude.{◌≡◌, ◌⊎◌, ℕ, List, ◌++◌, take, Result, Err}
 use Rattle.pg_link.specs.names.Names.{Text}
-use Rattle.pg_gate.specs.call.Call.{CallsFor, Request}
+use Rattle.pg_call.specs.Call.{CallsFor, Request}
 use Rattle.pg_gate.specs.print.Printed.{printed}
 use Rattle.pg_gate.specs.declared.error.GateError.{GateError}
 use Rattle.pg_gate.specs.declared.error.GateError.TheVariants.{Memory, WriteFailed}

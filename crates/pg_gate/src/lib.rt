@@ -3,7 +3,7 @@
 #![tactic(auto)]
 
 mod answer;
-mod call;
+mod call_error;
 mod error;
 pub mod laws;
 mod print;

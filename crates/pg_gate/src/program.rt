@@ -2,35 +2,33 @@
 ghost use Rattle.std.specs.Prelude.{◌≡◌, ◌≢◌, ◌⊎◌, ◌+◌, IfErr, IfOk, IsErrOf, OnOk};
 ghost use Rattle.clap.specs.Walk.{texts};
 ghost use Rattle.clap.specs.Words.{kind_of};
-ghost use Rattle.pg_gate.specs.call.Call.{IsCall, IsRefused, request_of};
+ghost use Rattle.pg_call.specs.Call.{IsCall, IsRefused, request_of};
 ghost use Rattle.pg_gate.specs.answer.Grants.{Grants, seen};
 ghost use Rattle.pg_gate.specs.print.Printed.{root_of};
 ghost use Rattle.pg_gate.specs.Run.{Begins, IsRunError, Keeps, MayLack, Prints, failures_in};
 
 use crate::answer::dispatch::answer;
-use crate::call::{Call, command_line};
 use crate::error::GateError;
 use crate::print::sink::{Sink, write_all};
 use clap::error::ErrorKind;
+use pg_call::{Call, call_of, matches_of};
 use pg_link::Sources;
 use std::alloc::Global;
 
 /// The status of arguments that `clap` doesn't take, as of those that ask for help.
 const USAGE: u8 = 4;
 
-impl Call<'_> {
-    /// The name of the root types, where the call has one.
-    fn root(&self) -> &str
-        ensures { result.now ≡ root_of (request_of self.now) }
-    {
-        match self {
-            Call::Gate(asked) => asked.root,
-            Call::Compile(_)
-            | Call::GateAll(_)
-            | Call::Show(_)
-            | Call::Verify { .. }
-            | Call::Types(_) => "",
-        }
+/// The name of the call's root types, where it has one.
+fn root<'a>(call: &Call<'a>) -> &'a str
+    ensures { result.now ≡ root_of (request_of call.now) }
+{
+    match call {
+        Call::Gate(asked) => asked.root,
+        Call::Compile(_)
+        | Call::GateAll(_)
+        | Call::Show(_)
+        | Call::Verify { .. }
+        | Call::Types(_) => "",
     }
 }
 
@@ -103,12 +101,12 @@ pub fn run<S: Sources, T: Sources, W: Sink>(
     ensures new_given { T.may_give new.new ≡ T.may_give new.old }
     ensures new_lacked { T.may_lack new.new ≡ T.may_lack new.old }
 {
-    let matches = match command_line::matches_of(alloc, words) {
+    let matches = match matches_of(alloc, words) {
         Ok(matches) => matches,
         Err(error) => return usage(alloc, &error, sink),
     };
-    let call = command_line::call_of(&matches);
-    let output = answer(alloc, &call, old, new)?.into_output(alloc, call.root())?;
+    let call = call_of(&matches);
+    let output = answer(alloc, &call, old, new)?.into_output(alloc, root(&call))?;
     write_all(sink, &output.text)?;
     Ok(output.status)
 }

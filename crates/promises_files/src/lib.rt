@@ -5,7 +5,7 @@
 
 ghost use Rattle.std.specs.Prelude.{◌≡◌, ◌+◌, codes, IfErr, IfOk};
 ghost use Rattle.pg_gate.specs.Failures.{side_failures};
-ghost use Rattle.pg_gate.specs.answer.Files.{paths_of};
+ghost use Rattle.pg_call.specs.Paths.{paths_of};
 ghost use Rattle.pg_gate.specs.answer.Grants.{IsAnswerOfFiles, IsGateError};
 ghost use Rattle.pg_link.specs.walk.Walk.{world};
 

@@ -5,7 +5,7 @@
 
 ghost use Rattle.std.specs.Prelude.{◌≡◌, ◌≢◌, ◌⊎◌, ◌+◌, IfErr, IfOk, IsErrOf};
 ghost use Rattle.clap.specs.Walk.{texts};
-ghost use Rattle.pg_gate.specs.call.Call.{IsCall, IsRefused};
+ghost use Rattle.pg_call.specs.Call.{IsCall, IsRefused};
 ghost use Rattle.pg_gate.specs.answer.Grants.{Grants, seen};
 ghost use Rattle.pg_gate.specs.Run.{Begins, IsRunError, MayLack, Prints, failures_in};
 

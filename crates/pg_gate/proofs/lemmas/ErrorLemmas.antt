@@ -4,9 +4,9 @@ use Rattle.std.specs.Result.{IsErrAnd}
 use Rattle.pg_dyn.specs.declared.error.DynError.{DynError}
 use Rattle.pg_gate.specs.Errors.{IsCallError, IsError, IsMemory}
 use Rattle.pg_gate.specs.Failures.{call_failures_at, failures_at, failures_by, fault_failures, if_same}
-use Rattle.pg_gate.specs.declared.call.error.CallError.{CallError}
-use Rattle.pg_gate.specs.declared.call.error.CallError.TheVariants as calls
-use Rattle.pg_gate.specs.declared.call.error.CertificateFault.{CertificateFault}
+use Rattle.pg_gate.specs.declared.call_error.CallError.{CallError}
+use Rattle.pg_gate.specs.declared.call_error.CallError.TheVariants as calls
+use Rattle.pg_gate.specs.declared.call_error.CertificateFault.{CertificateFault}
 use Rattle.pg_gate.specs.declared.error.Fault.{Fault}
 use Rattle.pg_gate.specs.declared.error.GateError.{GateError}
 use Rattle.pg_gate.specs.declared.error.GateError.TheVariants as gates
@@ -33,6 +33,11 @@ call_error-weaker G G′ C C′ B B′ g c b (calls.Bytes error) is = b error is
 -- out of memory is an error of each kind
 pub memory_is : (A B C : Type 0) (F : Side → Fault → Type 0) (error : GateError) → IsMemory error → IsError A B C F error
 memory_is A B C F error is = subst (λ e. IsError A B C F e) (sym is) tt
+
+-- an error that `?` passes on
+pub IfErr-IsErrAnd : {T E : Type 0} (r : Result T E) (P Q : E → Type 0) → IsErrAnd r P → ((e : E) → P e → Q e) → IfErr r Q
+IfErr-IsErrAnd (Ok x) P Q has weaker = tt
+IfErr-IsErrAnd (Err e) P Q has weaker = weaker e has
 
 -- what `?` passes on
 pub passed_on : {T E : Type 0} (r : Result T E) (tells : E → ℕ) (error : E) → IsErrAnd r (λ e. e ≡ error) → failures_by tells r ≡ tells error

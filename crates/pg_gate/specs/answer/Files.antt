@@ -1,7 +1,6 @@
 -- What a side's source files declare or its descriptor set states, and what either is refused for.
-use Rattle.std.specs.Prelude.{◌≡◌, ℕ, Bool, nat_eq, List, [], ◌∷◌, map, Option, Some, None, IsTrue, codes, if◌then◌else◌}
+use Rattle.std.specs.Prelude.{◌≡◌, ℕ, Bool, nat_eq, List, [], ◌∷◌, Option, Some, None, IsTrue, codes, if◌then◌else◌}
 use Rattle.std.specs.List.{ends_with}
-use Rattle.std.specs.Borrow.{Bor}
 use Rattle.pg_check.specs.Declares.{Declares}
 use Rattle.pg_check.specs.Errors.{IsRefused}
 use Rattle.pg_check.specs.parts.Sources.{linked_sources}
@@ -23,33 +22,12 @@ use Rattle.pg_link.specs.declared.error.LinkError.{LinkError}
 use Rattle.pg_link.specs.declared.error.LinkError.TheVariants as links
 use Rattle.pg_link.specs.declared.uses.target.Target.{Target}
 use Rattle.pg_gate.specs.Errors.{IsError}
-use Rattle.pg_gate.specs.declared.call.BothFiles.{BothFiles}
-use Rattle.pg_gate.specs.declared.call.Files.{Files}
 use Rattle.pg_gate.specs.declared.error.Fault.{Fault}
 use Rattle.pg_gate.specs.declared.error.Fault.TheVariants as faults
 use Rattle.pg_gate.specs.declared.error.GateError.{GateError}
 use Rattle.pg_gate.specs.declared.error.Side.{Side}
 use Rattle.pg_schema.specs.declared.parts.Parts.{Parts}
 use Rattle.pg_schema.specs.rules.Sound.{IsSound}
-
--- the paths of files below a folder
-pub record Paths : Type 0 where
-  pub folder : Text
-  pub files : List Text
-
--- the paths of the old and of the new side
-pub record BothPaths : Type 0 where
-  pub old : Paths
-  pub new : Paths
-
-abbrev pub paths_of : List (Bor Text) → List Text
-paths_of = map (λ path. path.now)
-
-abbrev pub paths_in : Files → Paths
-paths_in files = record { folder = files.folder.now; files = paths_of files.paths.now }
-
-abbrev pub both_paths : BothFiles → BothPaths
-both_paths files = record { old = paths_in files.old; new = paths_in files.new }
 
 -- what a fault says, by what each kind of it would: of files that can't be linked, of a broken rule, and of a refused
 -- set

@@ -12,13 +12,14 @@ use Rattle.pg_pairs.specs.views.NamedView.{seen_under}
 use Rattle.pg_schema.specs.declared.parts.Parts.{Parts}
 use Rattle.pg_schema.specs.Parts.{shape_of}
 use Rattle.pg_gate.specs.answer.AllTypes.{IsAllTypes}
-use Rattle.pg_gate.specs.call.Call.{GateRequest, Request, compile, gate, gate_all, show, types, verify}
+use Rattle.pg_call.specs.Call.{GateRequest, Request, compile, gate, gate_all, show, types, verify}
 use Rattle.pg_link.specs.names.Names.{Text}
 use Rattle.pg_link.specs.walk.Walk.{World, world}
 use Rattle.pg_link.specs.declared.sources.Sources.{Ghosts}
 use Rattle.pg_gate.specs.Errors.{IsCallError, IsError}
 use Rattle.pg_gate.specs.Failures.{call_failures_at}
-use Rattle.pg_gate.specs.answer.Files.{IsErrorOf, IsFaultOfSet, IsFaultOfSide, IsSetOf, IsSide, IsSideError, Paths}
+use Rattle.pg_call.specs.Paths.{Paths}
+use Rattle.pg_gate.specs.answer.Files.{IsErrorOf, IsFaultOfSet, IsFaultOfSide, IsSetOf, IsSide, IsSideError}
 use Rattle.pg_gate.specs.answer.Answer.{IsAnswer, IsBroken, IsCompatible, certificate_of}
 use Rattle.pg_gate.specs.declared.answer.gate.Answer.{Answer}
 use Rattle.pg_gate.specs.print.Refusals.{refusal_for}
@@ -27,9 +28,9 @@ use Rattle.pg_gate.specs.answer.Steps.{AreSteps}
 use Rattle.pg_gate.specs.print.Text.{ListsTypes}
 use Rattle.pg_gate.specs.answer.Verified.{IsClaimFault, IsHeldBy}
 use Rattle.pg_gate.specs.answer.ViewAnswer.{IsAnswerUnder}
-use Rattle.pg_gate.specs.declared.call.error.CallError.{CallError}
-use Rattle.pg_gate.specs.declared.call.error.CertificateFault.{CertificateFault}
-use Rattle.pg_gate.specs.declared.call.error.CertificateFault.TheVariants as certificates
+use Rattle.pg_gate.specs.declared.call_error.CallError.{CallError}
+use Rattle.pg_gate.specs.declared.call_error.CertificateFault.{CertificateFault}
+use Rattle.pg_gate.specs.declared.call_error.CertificateFault.TheVariants as certificates
 use Rattle.pg_gate.specs.declared.error.Fault.{Fault}
 use Rattle.pg_gate.specs.declared.error.GateError.{GateError}
 use Rattle.pg_gate.specs.declared.error.Side.{Side}

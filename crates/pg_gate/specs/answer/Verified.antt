@@ -11,8 +11,8 @@ use Rattle.pg_cert.specs.declared.error.CertError.TheVariants as checks
 use Rattle.pg_pairs.specs.declared.choices.choice.Pair.{Pair}
 use Rattle.pg_schema.specs.declared.parts.Parts.{Parts}
 use Rattle.pg_least.specs.Loss.{IsNamed}
-use Rattle.pg_gate.specs.declared.call.error.ClaimFault.{ClaimFault}
-use Rattle.pg_gate.specs.declared.call.error.PairNames.{PairNames}
+use Rattle.pg_gate.specs.declared.call_error.ClaimFault.{ClaimFault}
+use Rattle.pg_gate.specs.declared.call_error.PairNames.{PairNames}
 use Rattle.pg_gate.specs.declared.print.location.Location.{Location}
 use Rattle.pg_gate.specs.declared.print.location.Location.TheVariants as locations
 use Rattle.pg_gate.specs.declared.print.reply.Finding.{Finding}

@@ -8,9 +8,9 @@ use Rattle.pg_schema.specs.declared.parts.Parts.{Parts}
 use Rattle.pg_gate.specs.Errors.{IsCallError, IsMemory}
 use Rattle.pg_gate.specs.answer.Grants.{IsCertificateFault, IsGiven}
 use Rattle.pg_gate.specs.answer.Verified.{IsClaimFault, IsFaultOfClaim, IsHeldBy}
-use Rattle.pg_gate.specs.declared.call.error.CallError.{CallError}
-use Rattle.pg_gate.specs.declared.call.error.CertificateFault.{CertificateFault}
-use Rattle.pg_gate.specs.declared.call.error.CertificateFault.TheVariants as certificates
+use Rattle.pg_gate.specs.declared.call_error.CallError.{CallError}
+use Rattle.pg_gate.specs.declared.call_error.CertificateFault.{CertificateFault}
+use Rattle.pg_gate.specs.declared.call_error.CertificateFault.TheVariants as certificates
 use Rattle.pg_gate.specs.declared.print.reply.Finding.{Finding}
 
 -- a checker's error is why the bytes are refused, or says that memory ran out

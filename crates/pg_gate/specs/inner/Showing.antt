@@ -7,7 +7,7 @@ use Rattle.pg_show.specs.Hex.{bytes_in}
 use Rattle.pg_least.specs.Loss.{Lacks}
 use Rattle.pg_gate.specs.Errors.{IsCallError, IsError, IsMemory}
 use Rattle.pg_gate.specs.answer.Showing.{IsBadWord, IsRefused, IsRefusedWord}
-use Rattle.pg_gate.specs.declared.call.error.CallError.{CallError}
+use Rattle.pg_gate.specs.declared.call_error.CallError.{CallError}
 use Rattle.pg_gate.specs.declared.error.GateError.{GateError}
 
 -- an argument that spells no bytes

@@ -1,7 +1,7 @@
 -- What functions inside the crate know of a source: what it may give and lack below a folder.
 use Rattle.pg_link.specs.walk.Walk.{World, world}
 use Rattle.pg_link.specs.declared.sources.Sources.{Ghosts}
-use Rattle.pg_gate.specs.answer.Files.{Paths}
+use Rattle.pg_call.specs.Paths.{Paths}
 
 -- Files below a folder, with what their source may give and lack. A clause has the members of a source as S.Sources.
 abbrev pub world_of : {S : Type 0} → Ghosts S → S → Paths → World

@@ -7,10 +7,10 @@ use Rattle.pg_fds.specs.refusals.ErrorCodes.{code_of as set_code}
 use Rattle.pg_link.specs.Codes.{code_of as link_code}
 use Rattle.pg_show.specs.Codes.{code_of as word_code}
 use Rattle.pg_show.specs.declared.error.HexError.TheVariants as hexes
-use Rattle.pg_gate.specs.declared.call.error.CallError.{CallError}
-use Rattle.pg_gate.specs.declared.call.error.CallError.TheVariants as calls
-use Rattle.pg_gate.specs.declared.call.error.CertificateFault.{CertificateFault}
-use Rattle.pg_gate.specs.declared.call.error.CertificateFault.TheVariants as certificates
+use Rattle.pg_gate.specs.declared.call_error.CallError.{CallError}
+use Rattle.pg_gate.specs.declared.call_error.CallError.TheVariants as calls
+use Rattle.pg_gate.specs.declared.call_error.CertificateFault.{CertificateFault}
+use Rattle.pg_gate.specs.declared.call_error.CertificateFault.TheVariants as certificates
 use Rattle.pg_gate.specs.declared.error.Fault.{Fault}
 use Rattle.pg_gate.specs.declared.error.Fault.TheVariants as faults
 use Rattle.pg_gate.specs.declared.error.GateError.{GateError}

@@ -3,7 +3,7 @@ use Rattle.std.specs.Prelude.{ℕ, ◌==◌, ◌||◌, [], if◌then◌else◌, 
 use Rattle.pg_link.specs.names.Names.{Text}
 use Rattle.pg_cert.specs.declared.verdict.Verdict.{Verdict}
 use Rattle.pg_cert.specs.declared.verdict.Verdict.TheVariants as verdicts
-use Rattle.pg_gate.specs.call.Call.{Request, gate}
+use Rattle.pg_call.specs.Call.{Request, gate}
 use Rattle.pg_gate.specs.print.AllText.{all_of}
 use Rattle.pg_gate.specs.print.Text.{both_of, finding_of, refusal_of}
 use Rattle.pg_gate.specs.declared.answer.all_types.AllTypes.{AllTypes}

@@ -1,14 +1,15 @@
 //! Two sides that are compiled, the old one first.
 ghost use Rattle.std.specs.Prelude.{IfErr, IfOk};
 ghost use Rattle.pg_gate.specs.Failures.{side_failures};
-ghost use Rattle.pg_gate.specs.answer.Files.{IsSide, paths_in};
+ghost use Rattle.pg_call.specs.Paths.{paths_in};
+ghost use Rattle.pg_gate.specs.answer.Files.{IsSide};
 ghost use Rattle.pg_gate.specs.answer.Grants.{IsSidesError};
 ghost use Rattle.pg_link.specs.walk.Reads.{Reads};
 ghost use Rattle.pg_gate.specs.inner.Sources.{world_of};
 
 use crate::answer::compile::{Compiled, compile_files};
-use crate::call::BothFiles;
 use crate::error::{GateError, Side};
+use pg_call::BothFiles;
 use pg_link::Sources;
 use std::alloc::Global;
 

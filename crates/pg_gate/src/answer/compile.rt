@@ -5,14 +5,15 @@ ghost use Rattle.pg_link.specs.walk.Walk.{IsLinked};
 ghost use Rattle.pg_check.specs.Declares.{Declares};
 ghost use Rattle.pg_check.specs.parts.Sources.{linked_sources};
 ghost use Rattle.pg_gate.specs.Failures.{side_failures};
-ghost use Rattle.pg_gate.specs.answer.Files.{IsCompiled, IsErrorOf, IsFaultOf, IsFaultOfRead, IsRead, IsSide, IsSideError, paths_in};
+ghost use Rattle.pg_call.specs.Paths.{paths_in};
+ghost use Rattle.pg_gate.specs.answer.Files.{IsCompiled, IsErrorOf, IsFaultOf, IsFaultOfRead, IsRead, IsSide, IsSideError};
 ghost use Rattle.pg_link.specs.walk.Reads.{Reads};
 ghost use Rattle.pg_gate.specs.inner.Sources.{world_of};
 ghost use Rattle.pg_gate.specs.inner.Faults.{IsOfLink, IsOfRules};
 
 use crate::answer::sets::{read_set, set_at};
-use crate::call::Files;
 use crate::error::{Fault, GateError, Side};
+use pg_call::Files;
 use pg_check::{CheckError, build};
 use pg_link::{LinkError, Linked, Sources, link_below};
 use pg_schema::Schema;

@@ -8,14 +8,14 @@ ghost use Rattle.pg_least.specs.Loss.{AreRoots, Lacks};
 ghost use Rattle.pg_gate.specs.answer.Answer.{IsAnswer, IsRefusedRoot, certificate_of};
 ghost use Rattle.pg_gate.specs.Failures.{side_failures};
 ghost use Rattle.pg_gate.specs.answer.Grants.{IsAnswerOfFiles, IsGateError};
-ghost use Rattle.pg_gate.specs.answer.Files.{paths_of};
+ghost use Rattle.pg_call.specs.Paths.{paths_of};
 ghost use Rattle.pg_gate.specs.answer.ViewAnswer.{IsAnswerUnder};
 ghost use Rattle.pg_gate.specs.declared.error.GateError.TheVariants as errors;
 ghost use Rattle.pg_link.specs.walk.Walk.{world};
 
 use crate::answer::both_sides::compile_both;
-use crate::call::{BothFiles, Files};
 use crate::error::{GateError, Side};
+use pg_call::{BothFiles, Files};
 use pg_cert::Certificate;
 use pg_dyn::{Message, ViewName};
 use pg_least::{Found, find_with};

@@ -2,7 +2,8 @@
 ghost use Rattle.std.specs.Prelude.{◌≡◌, IfErr, IfOk, IsTrue, option_map};
 ghost use Rattle.pg_link.specs.walk.FolderPath.{path_below};
 ghost use Rattle.pg_gate.specs.Failures.{side_failures};
-ghost use Rattle.pg_gate.specs.answer.Files.{IsErrorOf, IsFaultOfRead, IsRead, IsStated, paths_of};
+ghost use Rattle.pg_call.specs.Paths.{paths_of};
+ghost use Rattle.pg_gate.specs.answer.Files.{IsErrorOf, IsFaultOfRead, IsRead, IsStated};
 ghost use Rattle.pg_gate.specs.answer.Files as spec;
 ghost use Rattle.pg_link.specs.walk.Reads.{Reads};
 ghost use Rattle.pg_gate.specs.inner.Faults.{IsFaultOfBytes, IsGivenFault};

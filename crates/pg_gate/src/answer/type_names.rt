@@ -1,15 +1,16 @@
 //! The names of the message types that files declare.
 ghost use Rattle.std.specs.Prelude.{IfErr, IfOk, string_bytes};
 ghost use Rattle.pg_gate.specs.Failures.{side_failures};
-ghost use Rattle.pg_gate.specs.answer.Files.{IsSideError, paths_in};
+ghost use Rattle.pg_call.specs.Paths.{paths_in};
+ghost use Rattle.pg_gate.specs.answer.Files.{IsSideError};
 ghost use Rattle.pg_gate.specs.answer.Grants.{OfSide};
 ghost use Rattle.pg_link.specs.walk.Reads.{Reads};
 ghost use Rattle.pg_gate.specs.inner.Sources.{world_of};
 ghost use Rattle.pg_gate.specs.print.Text.{ListsTypes};
 
 use crate::answer::compile::compile_files;
-use crate::call::Files;
 use crate::error::{GateError, Side};
+use pg_call::Files;
 use pg_link::Sources;
 use pg_schema::Schema;
 use std::alloc::{AllocError, Global};

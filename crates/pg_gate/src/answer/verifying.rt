@@ -5,7 +5,7 @@ ghost use Rattle.pg_cert.specs.ClaimView.{HoldsOf, SaysOf};
 ghost use Rattle.pg_cert.specs.Text.{Certifies, names_of};
 ghost use Rattle.pg_gate.specs.Failures.{call_failures};
 ghost use Rattle.pg_gate.specs.answer.Grants.{IsVerified, IsVerifyError};
-ghost use Rattle.pg_gate.specs.answer.Files.{paths_in};
+ghost use Rattle.pg_call.specs.Paths.{paths_in};
 ghost use Rattle.pg_link.specs.walk.Reads.{Reads};
 ghost use Rattle.pg_gate.specs.inner.Sources.{world_of};
 ghost use Rattle.pg_gate.specs.answer.Verified as spec;
@@ -13,11 +13,11 @@ ghost use Rattle.pg_gate.specs.inner.Claims.{IsClaimError, IsClaimRefusal, IsFou
 
 use crate::answer::both_sides::{BothSides, compile_both};
 use crate::answer::verified::Verified;
-use crate::call::BothFiles;
-use crate::call::error::{CallError, CertificateFault, ClaimFault, PairNames};
+use crate::call_error::{CallError, CertificateFault, ClaimFault, PairNames};
 use crate::error::{GateError, Side};
 use crate::print::location::Location;
 use crate::print::reply::Finding;
+use pg_call::BothFiles;
 use pg_cert::{CertError, Certificate, Verdict, check, from_text};
 use pg_link::{SourceError, Sources};
 use pg_pairs::Pair;

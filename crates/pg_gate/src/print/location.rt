@@ -3,7 +3,7 @@ ghost use Rattle.std.specs.Prelude.{◌≡◌, Some};
 ghost use Rattle.pg_gate.specs.print.Refusals as refusals;
 ghost use Rattle.pg_gate.specs.print.Text as spec;
 
-use crate::call::error::{CertificateFault, PairNames};
+use crate::call_error::{CertificateFault, PairNames};
 use crate::error::Fault;
 use pg_link::Place;
 use std::fmt;

@@ -1,14 +1,14 @@
 //! The line of a refusal.
 ghost use Rattle.std.specs.Prelude.{◌≡◌, None, Some};
-ghost use Rattle.pg_gate.specs.call.Call.{request_of};
+ghost use Rattle.pg_call.specs.Call.{request_of};
 ghost use Rattle.pg_gate.specs.print.Printed as printed;
 ghost use Rattle.pg_gate.specs.print.Refusals as refusals;
 ghost use Rattle.pg_gate.specs.print.Text as spec;
 
-use crate::call::Call;
-use crate::call::error::{CallError, SOURCE_FAILED};
+use crate::call_error::{CallError, SOURCE_FAILED};
 use crate::error::{GateError, Side};
 use crate::print::location::{Location, location_of, location_of_certificate, location_of_fault};
+use pg_call::Call;
 use pg_dyn::DynError;
 use std::fmt;
 

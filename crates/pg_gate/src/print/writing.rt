@@ -1,13 +1,14 @@
 //! The descriptor set of files.
 ghost use Rattle.std.specs.Prelude.{IfErr, IfOk};
 ghost use Rattle.pg_gate.specs.Failures.{side_failures};
-ghost use Rattle.pg_gate.specs.answer.Files.{IsErrorOf, IsFaultOfSet, IsSetOf, paths_in};
+ghost use Rattle.pg_call.specs.Paths.{paths_in};
+ghost use Rattle.pg_gate.specs.answer.Files.{IsErrorOf, IsFaultOfSet, IsSetOf};
 ghost use Rattle.pg_link.specs.walk.Reads.{Reads};
 ghost use Rattle.pg_gate.specs.inner.Sources.{world_of};
 
 use crate::answer::compile::compile_sources;
-use crate::call::Files;
 use crate::error::{Fault, GateError, Side};
+use pg_call::Files;
 use pg_fds::{FdsError, write};
 use pg_link::Sources;
 use std::alloc::Global;

@@ -22,7 +22,7 @@ use Rattle.pg_gate.specs.answer.Answer.{IsAnswer, IsAnswerBy, IsBroken, IsCompat
 use Rattle.pg_gate.specs.answer.ViewAnswer.{IsAnswerUnder}
 use Rattle.pg_gate.specs.answer.Files.{IsFaultOfSide, IsSide, IsSideError}
 use Rattle.pg_gate.specs.answer.Grants.{Between, IsAnswerOfFiles, IsFindingOf, IsGateError, IsGateReply, IsSidesError, IsSidesFault}
-use Rattle.pg_gate.specs.call.Call.{GateRequest}
+use Rattle.pg_call.specs.Call.{GateRequest}
 use Rattle.pg_gate.specs.inner.Reports.{Reports}
 use Rattle.pg_gate.specs.declared.error.Side.TheVariants as sides
 use Rattle.pg_link.specs.walk.Walk.{World}

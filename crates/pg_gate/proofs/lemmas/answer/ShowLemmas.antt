@@ -12,8 +12,8 @@ use Rattle.pg_gate.specs.answer.Files.{IsFaultOfSide, IsSide, IsSideError}
 use Rattle.pg_gate.specs.answer.Grants.{IsShowError, OfSide}
 use Rattle.pg_gate.specs.answer.Showing.{IsBadWord, IsReadAs, IsRefused, IsRefusedWord, IsShown}
 use Rattle.pg_gate.specs.inner.Showing.{IsShowFault, IsUnread, IsUnspelled}
-use Rattle.pg_gate.specs.declared.call.error.CallError.{CallError}
-use Rattle.pg_gate.specs.declared.call.error.CallError.TheVariants as calls
+use Rattle.pg_gate.specs.declared.call_error.CallError.{CallError}
+use Rattle.pg_gate.specs.declared.call_error.CallError.TheVariants as calls
 use Rattle.pg_gate.specs.declared.error.GateError.{GateError}
 use Rattle.pg_gate.specs.declared.error.Side.{Side}
 use Rattle.pg_gate.specs.declared.error.Side.TheVariants as sides

@@ -25,10 +25,10 @@ use Rattle.pg_gate.specs.answer.Files.{IsSide}
 use Rattle.pg_gate.specs.answer.Grants.{IsSidesFault, IsVerified, IsVerifyError}
 use Rattle.pg_gate.specs.answer.Verified.{HasFirstFault, IsClaimFault, IsFaultOfClaim, IsPlaceOf}
 use Rattle.pg_gate.specs.inner.Claims.{IsClaimError, IsClaimRefusal, IsFound, IsUngiven, IsUntaken, as_given}
-use Rattle.pg_gate.specs.declared.call.error.CallError.{CallError}
-use Rattle.pg_gate.specs.declared.call.error.CallError.TheVariants as calls
-use Rattle.pg_gate.specs.declared.call.error.CertificateFault.TheVariants as certificates
-use Rattle.pg_gate.specs.declared.call.error.ClaimFault.{ClaimFault}
+use Rattle.pg_gate.specs.declared.call_error.CallError.{CallError}
+use Rattle.pg_gate.specs.declared.call_error.CallError.TheVariants as calls
+use Rattle.pg_gate.specs.declared.call_error.CertificateFault.TheVariants as certificates
+use Rattle.pg_gate.specs.declared.call_error.ClaimFault.{ClaimFault}
 use Rattle.pg_gate.specs.declared.error.Side.{Side}
 use Rattle.pg_gate.specs.declared.error.Side.TheVariants as sides
 use Rattle.pg_gate.specs.declared.print.reply.Finding.{Finding}

@@ -1,6 +1,6 @@
 use Rattle.std.proofs.Common.{refl, inr}
 use Rattle.std.proofs.lemmas.Result.{IfOk-weaker}
-use Rattle.pg_gate.specs.call.Call.{request_of}
+use Rattle.pg_call.specs.Call.{request_of}
 use Rattle.pg_gate.specs.Run.{answered, unfailed}
 use Rattle.pg_gate.proofs.lemmas.RunLemmas.{nothing_came}
 use Rattle.pg_gate.proofs.program.run.Goals as goal

@@ -1,13 +1,13 @@
 use Rattle.std.proofs.Common.{◌≡◌, subst, sym}
 use Rattle.pg_gate.specs.Failures.{failures_at}
-use Rattle.pg_gate.specs.answer.Files.{IsFaultOfSide, IsSide, paths_in}
+use Rattle.pg_call.specs.Paths.{paths_in}
+use Rattle.pg_gate.specs.answer.Files.{IsFaultOfSide, IsSide}
 use Rattle.pg_gate.specs.answer.Grants.{IsSidesError}
 use Rattle.pg_gate.specs.inner.Sources.{world_of}
 use Rattle.pg_gate.specs.declared.error.GateError.{GateError}
 use Rattle.pg_gate.specs.declared.error.Side.TheVariants as sides
 use Rattle.pg_gate.proofs.lemmas.answer.AnswerLemmas.{of_new_side, of_old_side}
-use Rattle.pg_gate.proofs.lemmas.call.CallLemmas.{IfErr-IsErrAnd}
-use Rattle.pg_gate.proofs.lemmas.ErrorLemmas.{new_alone, old_alone}
+use Rattle.pg_gate.proofs.lemmas.ErrorLemmas.{IfErr-IsErrAnd, new_alone, old_alone}
 use Rattle.pg_gate.proofs.lemmas.answer.SourceLemmas.{no_more, passed, unasked}
 use Rattle.pg_gate.proofs.answer.both_sides.compile_both.Goals as goal
 

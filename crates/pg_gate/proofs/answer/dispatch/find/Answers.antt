@@ -1,14 +1,14 @@
 use Rattle.std.proofs.Common.{◌≡◌, subst, sym}
 use Rattle.std.proofs.lemmas.Result.{IfErr-weaker, IfOk-weaker}
-use Rattle.pg_gate.specs.call.Call.{gate_request}
+use Rattle.pg_call.specs.Call.{gate_request}
 use Rattle.pg_gate.specs.Failures.{failures_at}
 use Rattle.pg_gate.specs.answer.Grants.{IsGateError}
-use Rattle.pg_gate.specs.answer.Files.{paths_in}
+use Rattle.pg_call.specs.Paths.{paths_in}
 use Rattle.pg_gate.specs.inner.Sources.{world_of}
 use Rattle.pg_gate.specs.declared.error.GateError.{GateError}
 use Rattle.pg_gate.specs.declared.error.Side.TheVariants as sides
 use Rattle.pg_gate.proofs.lemmas.answer.AnswerLemmas.{of_sides, refused_of_files, reply_of_files, root_uncounted}
-use Rattle.pg_gate.proofs.lemmas.call.CallLemmas.{IfErr-IsErrAnd}
+use Rattle.pg_gate.proofs.lemmas.ErrorLemmas.{IfErr-IsErrAnd}
 use Rattle.pg_gate.proofs.lemmas.answer.SourceLemmas.{no_more, passed}
 use Rattle.pg_gate.proofs.answer.dispatch.find.Goals as goal
 

@@ -1,7 +1,7 @@
 use Rattle.std.proofs.lemmas.Result.{IfErr-weaker, IfOk-weaker}
 use Rattle.pg_gate.specs.Errors.{IsMemory}
 use Rattle.pg_gate.specs.Failures.{failures_at}
-use Rattle.pg_gate.specs.answer.Files.{paths_in}
+use Rattle.pg_call.specs.Paths.{paths_in}
 use Rattle.pg_gate.specs.answer.Grants.{IsSidesFault}
 use Rattle.pg_gate.specs.inner.Sources.{world_of}
 use Rattle.pg_gate.specs.declared.error.Side.TheVariants as sides

@@ -2,14 +2,13 @@ use Rattle.std.proofs.Common.{◌≡◌, string_bytes, subst, sym}
 use Rattle.std.proofs.lemmas.Result.{IfErr-weaker, IfOk-weaker}
 use Rattle.pg_gate.specs.Failures.{call_failures_at}
 use Rattle.pg_gate.specs.answer.Grants.{IsShowError}
-use Rattle.pg_gate.specs.answer.Files.{paths_in}
+use Rattle.pg_call.specs.Paths.{paths_in}
 use Rattle.pg_gate.specs.inner.Sources.{world_of}
 use Rattle.pg_gate.specs.inner.Showing.{IsShowFault}
-use Rattle.pg_gate.specs.declared.call.error.CallError.{CallError}
-use Rattle.pg_gate.specs.declared.call.error.CallError.TheVariants as calls
+use Rattle.pg_gate.specs.declared.call_error.CallError.{CallError}
+use Rattle.pg_gate.specs.declared.call_error.CallError.TheVariants as calls
 use Rattle.pg_gate.specs.declared.error.Side.TheVariants as sides
-use Rattle.pg_gate.proofs.lemmas.call.CallLemmas.{IfErr-IsErrAnd}
-use Rattle.pg_gate.proofs.lemmas.ErrorLemmas.{none_counted}
+use Rattle.pg_gate.proofs.lemmas.ErrorLemmas.{IfErr-IsErrAnd, none_counted}
 use Rattle.pg_gate.proofs.lemmas.answer.ShowLemmas.{of_files, refused_of_files, shown_of_files, shown_uncounted}
 use Rattle.pg_gate.proofs.lemmas.answer.SourceLemmas.{no_more, passed}
 use Rattle.pg_gate.proofs.answer.showing.shown.Goals as goal

@@ -1,9 +1,9 @@
 use Rattle.std.proofs.Common.{◌≡◌, ◌∙◌, Some, ap, refl, string_bytes, subst, sym}
 use Rattle.std.proofs.lemmas.Result.{IfErr-weaker, IfOk-weaker}
 use Rattle.pg_gate.specs.inner.Showing.{IsShowFault}
-use Rattle.pg_gate.specs.declared.call.error.CallError.{CallError}
-use Rattle.pg_gate.specs.declared.call.error.CallError.TheVariants as calls
-use Rattle.pg_gate.proofs.lemmas.call.CallLemmas.{IfErr-IsErrAnd}
+use Rattle.pg_gate.specs.declared.call_error.CallError.{CallError}
+use Rattle.pg_gate.specs.declared.call_error.CallError.TheVariants as calls
+use Rattle.pg_gate.proofs.lemmas.ErrorLemmas.{IfErr-IsErrAnd}
 use Rattle.pg_least.proofs.PublicLaws.{named_types_are_there}
 use Rattle.pg_gate.proofs.lemmas.answer.ShowLemmas.{shown_there, unread_there, unspelled_there}
 use Rattle.pg_gate.proofs.answer.showing.shown_by.Goals as goal

@@ -2,8 +2,8 @@ use Rattle.std.proofs.Common.{◌≡◌, ◌∙◌, ap, subst, sym}
 use Rattle.pg_cert.specs.Text.{names_of}
 use Rattle.pg_pairs.specs.declared.choices.choice.Pair.{Pair}
 use Rattle.pg_gate.specs.inner.Claims.{IsClaimError}
-use Rattle.pg_gate.specs.declared.call.error.CallError.{CallError}
-use Rattle.pg_gate.proofs.lemmas.call.CallLemmas.{IfErr-IsErrAnd}
+use Rattle.pg_gate.specs.declared.call_error.CallError.{CallError}
+use Rattle.pg_gate.proofs.lemmas.ErrorLemmas.{IfErr-IsErrAnd}
 use Rattle.pg_gate.proofs.lemmas.answer.VerifyLemmas.{named_by}
 use Rattle.pg_gate.proofs.answer.verifying.held.Goals as goal
 

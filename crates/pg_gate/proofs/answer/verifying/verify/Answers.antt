@@ -3,7 +3,7 @@ use Rattle.std.proofs.lemmas.Result.{IfErr-weaker, IfOk-weaker}
 use Rattle.std.specs.Prelude.{IfErr, IfOk}
 use Rattle.pg_link.specs.names.Names.{Text}
 use Rattle.pg_gate.specs.Failures.{call_failures_at}
-use Rattle.pg_gate.specs.answer.Files.{paths_in}
+use Rattle.pg_call.specs.Paths.{paths_in}
 use Rattle.pg_gate.specs.inner.Sources.{world_of}
 use Rattle.pg_gate.specs.inner.Claims.{IsFound, IsUntaken, as_given}
 use Rattle.pg_gate.specs.declared.error.Side.TheVariants as sides

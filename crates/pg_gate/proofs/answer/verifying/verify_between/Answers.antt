@@ -3,10 +3,9 @@ use Rattle.std.proofs.lemmas.Result.{IfErr-weaker, IfOk-weaker}
 use Rattle.std.specs.Prelude.{IsTrue}
 use Rattle.pg_gate.specs.Failures.{call_failures_at}
 use Rattle.pg_gate.specs.inner.Claims.{IsClaimError, IsUntaken, as_given}
-use Rattle.pg_gate.specs.declared.call.error.CallError.{CallError}
+use Rattle.pg_gate.specs.declared.call_error.CallError.{CallError}
 use Rattle.pg_gate.specs.declared.error.Side.TheVariants as sides
-use Rattle.pg_gate.proofs.lemmas.call.CallLemmas.{IfErr-IsErrAnd}
-use Rattle.pg_gate.proofs.lemmas.ErrorLemmas.{none_counted}
+use Rattle.pg_gate.proofs.lemmas.ErrorLemmas.{IfErr-IsErrAnd, none_counted}
 use Rattle.pg_gate.proofs.lemmas.answer.SourceLemmas.{no_more, passed}
 use Rattle.pg_gate.proofs.lemmas.answer.VerifyLemmas.{claim_uncounted, untaken_refused, untaken_ungiven}
 use Rattle.pg_gate.proofs.answer.verifying.verify_between.Goals as goal

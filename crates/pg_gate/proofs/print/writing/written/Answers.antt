@@ -1,6 +1,6 @@
 use Rattle.std.proofs.Common.{◌≡◌, refl, rules}
 use Rattle.pg_fds.specs.declared.error.FdsError.TheVariants as sets
-use Rattle.pg_gate.specs.answer.Files.{paths_in}
+use Rattle.pg_call.specs.Paths.{paths_in}
 use Rattle.pg_gate.specs.inner.Sources.{world_of}
 use Rattle.pg_gate.proofs.lemmas.print.SetLemmas.{unwritten}
 use Rattle.pg_gate.proofs.print.writing.written.Goals as goal

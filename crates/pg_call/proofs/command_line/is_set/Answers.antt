@@ -1,0 +1,17 @@
+use Rattle.std.proofs.Common.{◌∙◌, false, ap, codes}
+use Rattle.std.specs.Option.{option_map_or}
+use Rattle.std.specs.Str.{bytes_eq}
+use Rattle.clap.proofs.WalkLemmas.{first_value-rows}
+use Rattle.clap.specs.Words.{found_of}
+use Rattle.pg_call.proofs.command_line.is_set.Goals as goal
+
+pub returns-in-Some : goal.returns-in-Some
+returns-in-Some c =
+    c.eq.ensures
+    ∙ ap (λ o. option_map_or (λ value. bytes_eq value (codes "true")) o false)
+    (c.in-Some.ensures ∙ first_value-rows (found_of c.args.found.now) c.args.name.now)
+
+pub returns-in-None : goal.returns-in-None
+returns-in-None c =
+    ap (λ o. option_map_or (λ value. bytes_eq value (codes "true")) o false)
+    (c.in-None.ensures ∙ first_value-rows (found_of c.args.found.now) c.args.name.now)
