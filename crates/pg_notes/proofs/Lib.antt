@@ -1,0 +1,4 @@
+pub mod Firsts
+pub mod Going
+pub mod Places
+pub mod Reach
