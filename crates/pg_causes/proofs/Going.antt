@@ -1,21 +1,31 @@
 -- Lists that loops go along.
-use Rattle.std.proofs.Common.{◌≡◌, ◌∙◌, ℕ, zero, suc, ◌+◌, ◌<◌, List, [], ◌∷◌, ◌++◌, map, take, length, get_or, slice_get, Some, inl, inr, refl, ap, sym, subst, add-one, arith}
+use Rattle.std.proofs.Common.{◌≡◌, ◌∙◌, ℕ, zero, suc, ◌+◌, ◌<◌, List, [], ◌∷◌, ◌++◌, map, take, length, get_or, slice_get, Some, refl, ap, sym, subst, add-one, arith}
 use Rattle.std.specs.List.{AllByRecursion, flat_map}
 use Rattle.std.proofs.lemmas.Grind.{flat_map-append}
 use Rattle.std.proofs.lemmas.List.{append-nil, map-append}
 use Rattle.std.proofs.lemmas.Option.{get_or_from_slice_get, slice_get_within}
 use Rattle.std.proofs.Math.Seq.{take-suc}
 use Rattle.pg_dyn.proofs.Lists.{each-append}
+use Rattle.pg_schema.specs.Shape.{Shape}
 use Rattle.pg_pairs.specs.bounds.Covering.{IsAmong}
+use Rattle.pg_pairs.specs.choices.Causes.{causes}
+use Rattle.pg_pairs.specs.choices.Told.{told_causes, told_of}
+use Rattle.pg_pairs.specs.declared.choices.choice.Pair.{Pair}
+use Rattle.pg_pairs.specs.declared.choices.told.FieldCause.{FieldCause}
+use Rattle.pg_pairs.specs.laws.ToldLaws.{CausesAreTold}
+use Rattle.pg_pairs.specs.views.EnumView.{EnumView}
+use Rattle.pg_pairs.proofs.lemmas.graph.Reaching.{every_is_among}
+use Rattle.pg_pairs.proofs.lemmas.views.NameLaws.{among_map}
 
--- what is at an index is among the list
-pub among_get : {A : Type 0} (xs ys : List A) (i : ℕ) (d : A) → xs ≡ ys → i < length xs → IsAmong (get_or xs i d) ys
-among_get {A} xs ys i d same within = subst (λ zs. IsAmong (get_or xs i d) zs) same (go xs i within)
-  where
-    go : (zs : List A) (k : ℕ) → k < length zs → IsAmong (get_or zs k d) zs
-    go [] k below = absurd (omega arith)
-    go (z ∷ zs) zero below = inl refl
-    go (z ∷ zs) (suc k) below = inr (go zs k (omega arith))
+-- the choice of each told cause is a cause
+pub each_told : (enum_view : EnumView) (old new : Shape) (pair : Pair) (list : List FieldCause) → CausesAreTold → map told_of list ≡ told_causes enum_view old new pair
+    → AllByRecursion (λ (t : FieldCause). IsAmong t.choice (causes enum_view old new pair)) list
+each_told enum_view old new pair list law same =
+    every_is_among (λ (t : FieldCause). IsAmong t.choice (causes enum_view old new pair)) list (λ t here. law.are_causes enum_view old new pair (told_of t) (subst (IsAmong (told_of t)) same (among_map told_of t list here)))
+
+pub map_map : {A B C : Type 0} (f : A → B) (g : B → C) (xs : List A) → map (λ x. g (f x)) xs ≡ map g (map f xs)
+map_map f g [] = refl
+map_map f g (x ∷ xs) = ap (λ ys. g (f x) ∷ ys) (map_map f g xs)
 
 -- something is at each index within
 pub nothing_at : {A : Type 0} (xs : List A) (i : ℕ) → i < length xs → ((x : A) → slice_get xs i ≡ Some x → ⊥) → ⊥

@@ -1,3 +1,5 @@
+pub mod Explained
 pub mod Going
 pub mod Naming
 pub mod Overviews
+pub mod Told

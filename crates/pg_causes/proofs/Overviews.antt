@@ -1,5 +1,5 @@
 -- What a table of bounds says of the roots.
-use Rattle.std.proofs.Common.{◌≡◌, ◌∙◌, ℕ, ◌<◌, List, [], ◌∷◌, map, length, true, Option, Some, None, is_some, string_bytes, refl, ap, ap₂, sym, subst, ◌↔◌, lt-ltb}
+use Rattle.std.proofs.Common.{◌≡◌, ◌∙◌, ℕ, ◌<◌, List, [], ◌∷◌, map, length, true, Option, Some, None, is_some, string_bytes, inl, refl, ap, ap₂, sym, subst, ◌↔◌, lt-ltb}
 use Rattle.std.specs.List.{AllByRecursion}
 use Rattle.pg_schema.specs.declared.parts.Parts.{Parts}
 use Rattle.pg_schema.specs.Parts.{name_at, shape_of}
@@ -10,6 +10,8 @@ use Rattle.pg_pairs.proofs.lemmas.graph.Reaching.{every_is_among}
 use Rattle.pg_pairs.specs.declared.choices.choice.Pair.{Pair}
 use Rattle.pg_pairs.specs.bounds.Covering.{IsAmong}
 use Rattle.pg_pairs.specs.choices.Causes.{HasNoCause, causes}
+use Rattle.pg_pairs.specs.choices.Told.{Told, told_causes}
+use Rattle.pg_pairs.specs.laws.ToldLaws.{CausesAreTold}
 use Rattle.pg_pairs.specs.graph.Edges.{is_pair}
 use Rattle.pg_pairs.specs.views.EnumView.{EnumView}
 use Rattle.pg_pairs.specs.views.ViewLaws.{IsEnumView}
@@ -57,9 +59,17 @@ module _ (old new : Parts) (roots : List Pair) (alike : AllByRecursion (λ (p : 
     none_without : (pair : Pair) → IsAmong pair (pairs_of bounds) → (bound_in bounds pair ≡ Some None) ↔ HasNoCause enum_view (shape_of old) (shape_of new) pair
     none_without pair among = (without enum_view (shape_of old) (shape_of new) roots bounds law is_old is_new are_pairs from pair among).1
 
-    -- where the bound is 'none' the pair has no cause
-    pub none_caused : (pair : Pair) → bound_in bounds pair ≡ Some None → causes enum_view (shape_of old) (shape_of new) pair ≡ []
-    none_caused pair none = (none_without pair (tables_by_lines.among bounds pair None none)).0 none pair itself
+    -- where the bound is 'none' the pair has no cause, and none is told
+    pub none_caused : CausesAreTold → (pair : Pair) → bound_in bounds pair ≡ Some None → told_causes enum_view (shape_of old) (shape_of new) pair ≡ []
+    none_caused told pair none = of (told_causes enum_view (shape_of old) (shape_of new) pair) refl
+      where
+        no_cause : causes enum_view (shape_of old) (shape_of new) pair ≡ []
+        no_cause = (none_without pair (tables_by_lines.among bounds pair None none)).0 none pair itself
+
+        of : (ts : List Told) → told_causes enum_view (shape_of old) (shape_of new) pair ≡ ts → told_causes enum_view (shape_of old) (shape_of new) pair ≡ []
+        of [] is = is
+        of (t ∷ ts) is =
+            absurd (subst (IsAmong t.choice) no_cause (told.are_causes enum_view (shape_of old) (shape_of new) pair t (subst (IsAmong t) (sym is) (inl refl))))
 
     line_is : (line : TypeLine) (root : Pair) → (name : List ℕ) × AreRoots old new name root → Some (string_bytes line.name) ≡ name_at old.types.items root.old → Some line.bound ≡ bound_in bounds root → IsAmong root (pairs_of bounds) → IsTypeLine enum_view old new line
     line_is line root (name, alike) called bound among = record {

@@ -1,5 +1,6 @@
 pub mod Names
 pub mod Reasons
+pub mod Why
 pub mod Causes
 pub mod TypeLines
 pub mod Overview

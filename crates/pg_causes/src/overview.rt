@@ -11,7 +11,10 @@ use pg_dyn::ViewName;
 use pg_least::laws::compatible_without_causes;
 use pg_least::{PairChoice, bounds_from};
 use pg_pairs::Priced;
-use pg_pairs::laws::sees;
+use pg_pairs::laws::{
+    breaks_are_told, causes_are_apart, causes_are_told, causes_have_their_fields, sees,
+    ways_are_told,
+};
 use pg_schema::Schema;
 use std::alloc::{AllocError, Global};
 
@@ -32,18 +35,23 @@ pub enum Reason {
     MapKey,
     /// The new map reads some value as another, or can't read it.
     MapValue,
-    /// Two fields meet in one oneof of the new type.
+    /// Fields meet in one oneof of the new type.
     Oneof,
 }
 
-/// A field that breaks by itself, or two that meet in a oneof of the new type.
+/// A field that breaks by itself, or the fields that come into a oneof of the new type and meet.
 #[derive(Debug, PartialEq, Eq, Drop)]
 pub struct Cause {
     /// The pair of types, and how a message of the old one breaks.
     pub at: PairChoice,
+    /// The number of the field. Where fields meet in a oneof of the new type, the numbers of all
+    /// that come into it, in rising order. Each of them meets another one there.
+    pub numbers: Vec<u32>,
     /// Why it breaks.
     pub reason: Reason,
-    /// The encoding of a shortest message of the pair's old type that breaks so.
+    /// The encoding of a shortest message of the pair's old type that breaks for this reason at
+    /// these fields. Of fields that meet it holds the first two of the least cost; one of them may
+    /// break by itself in fewer bytes, and is then told as a cause of its own too.
     pub message: Vec<u8>,
 }
 
@@ -78,6 +86,11 @@ fn overview_of(alloc: Global, graph: &Priced<'_>) -> Result<Overview, AllocError
     graph.new.parts();
     sees(graph);
     compatible_without_causes();
+    causes_are_told();
+    breaks_are_told();
+    ways_are_told();
+    causes_are_apart();
+    causes_have_their_fields();
     let roots = roots_of(alloc, graph.old, graph.new)?;
     let (bounds, _) = bounds_from(alloc, graph, &roots)?;
     Ok(Overview {
@@ -88,10 +101,11 @@ fn overview_of(alloc: Global, graph: &Priced<'_>) -> Result<Overview, AllocError
     })
 }
 
-/// What breaks between two schemas: each field that breaks by itself, once, in the message types
-/// that both declare and in all pairs of types that these lead to; of each type that both declare
-/// whether its messages break, and how short one is that does; and the types that one schema alone
-/// declares. Enums are compared by the view of that name. All bounds come from one search.
+/// What breaks between two schemas: for each reason each field that breaks by itself, once, in the
+/// message types that both declare and in all pairs of types that these lead to; of each type that
+/// both declare whether its messages break, and how short one is that does; and the types that one
+/// schema alone declares. Enums are compared by the view of that name. All bounds come from one
+/// search.
 ///
 /// Refused only where memory is.
 pub fn gate_all(

@@ -1,9 +1,9 @@
 pub mod CarriedItems
+pub mod Coming
 pub mod Comparing
 pub mod Contents
 pub mod HeldItems
 pub mod LeastMembers
 pub mod MissingNames
-pub mod NewOneof
 pub mod OneofLinks
 pub mod Seen

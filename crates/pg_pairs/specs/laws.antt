@@ -1,3 +1,4 @@
+pub mod BreaksTold
 pub mod ByIndices
 pub mod CauseLaws
 pub mod CheapestLaws
@@ -8,3 +9,6 @@ pub mod FieldCosts
 pub mod HomeExamples
 pub mod ReadBack
 pub mod SmallPairs
+pub mod SmallTold
+pub mod ToldLaws
+pub mod WaysTold

@@ -1,7 +1,11 @@
 //! Laws about the definitions. Each is the contract of a function that does nothing.
 
 ghost use Rattle.pg_pairs.specs.witness.CarriedChoices.{EachChildCostsLess, EachChoiceIsCarried};
+ghost use Rattle.pg_pairs.specs.laws.BreaksTold.{BreaksAreTold};
 ghost use Rattle.pg_pairs.specs.laws.CauseLaws.{CausesAreOwn, NamesAlone, PricesAreNear};
+ghost use Rattle.pg_pairs.specs.laws.SmallTold.{SmallTold};
+ghost use Rattle.pg_pairs.specs.laws.ToldLaws.{CausesAreTold};
+ghost use Rattle.pg_pairs.specs.laws.WaysTold.{CausesAreApart, CausesHaveTheirFields, WaysAreTold};
 ghost use Rattle.pg_pairs.specs.laws.CheapestLaws.{CheapestIsLeast};
 ghost use Rattle.pg_pairs.specs.laws.ComesHome.{MessagesComeHome};
 ghost use Rattle.pg_pairs.specs.graph.Edges.{LeastCostsByEdges, PairsLeadToPairs, SchemasArePriced};
@@ -142,6 +146,41 @@ pub fn least_costs_by_edges()
 /// A cause has no child, and costs what an encoding may have.
 pub fn causes_are_own()
     ensures { CausesAreOwn }
+{}
+
+/// Small pairs of types with all their causes.
+pub fn small_told()
+    ensures { SmallTold }
+{}
+
+/// The choice of a told cause is a cause, and each cause is told: of one field by itself, of two
+/// that meet with all fields of their new oneof, by a message that is no longer.
+pub fn causes_are_told()
+    ensures { CausesAreTold }
+{}
+
+/// A message that breaks, while none inside it breaks by a child pair, holds the field of a told
+/// cause, or two of its fields that meet in a oneof, and has at least as many bytes as it costs.
+pub fn breaks_are_told()
+    ensures { BreaksAreTold }
+{}
+
+/// Each way in which a message breaks by itself is told: an item that the new type reads as another,
+/// fields of unlike kinds, a list that becomes one item, an entry's key or value, and two fields that
+/// meet in a oneof. The cause costs no more than the message has bytes.
+pub fn ways_are_told()
+    ensures { WaysAreTold }
+{}
+
+/// No two of the causes told of a pair are of the same fields in the same way.
+pub fn causes_are_apart()
+    ensures { CausesAreApart }
+{}
+
+/// A told cause of one field has just its number; one of fields that meet has the numbers of all
+/// fields that come into one oneof of the new type.
+pub fn causes_have_their_fields()
+    ensures { CausesHaveTheirFields }
 {}
 
 /// A view bears on gaps between two enums alone, and by numbers there are none of these: so names

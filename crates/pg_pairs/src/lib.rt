@@ -11,10 +11,11 @@ mod views;
 mod witness;
 
 pub use choices::case::Case;
-pub use choices::causes::{carry_cause, causes};
+pub use choices::causes::carry_cause;
 pub use choices::choice::{Choice, Pair};
 pub use choices::least_cost::cheapest;
 pub use choices::option_list::options;
+pub use choices::told::{FieldCause, told_causes};
 pub use gaps::gap_kind::Gap;
 pub use gaps::scalar_gap::gap;
 pub use graph::children::{children, choice_child};

@@ -1,25 +1,31 @@
 //! What is answered of causes.
 
-ghost use Rattle.std.specs.Prelude.{◌≡◌, None, IfOk};
+ghost use Rattle.std.specs.Prelude.{◌≡◌, map, None, IfOk};
 ghost use Rattle.pg_schema.specs.Parts.{shape_of};
 ghost use Rattle.pg_dyn.specs.fitting.Fits.{Fits};
 ghost use Rattle.pg_dyn.specs.message.Kept.{message_of, type_of};
 ghost use Rattle.pg_pairs.specs.bounds.Covering.{IsAmong};
 ghost use Rattle.pg_pairs.specs.witness.Carried.{carried};
 ghost use Rattle.pg_pairs.specs.choices.Causes as own;
+ghost use Rattle.pg_pairs.specs.choices.Told as spec;
 ghost use Rattle.pg_pairs.specs.bounds.Laws.{ReachedBy};
 ghost use Rattle.pg_pairs.specs.graph.GraphView.{seen};
 
 use pg_dyn::Message;
-use pg_pairs::{Choice, Pair, Priced};
+use pg_pairs::{Choice, FieldCause, Pair, Priced};
 use std::alloc::{AllocError, Global};
 
-/// What `causes` answers.
-pub fn causes(alloc: Global, graph: &Priced<'_>, pair: Pair) -> Result<Vec<Choice>, AllocError>
-    ensures { IfOk result (λ cs. cs.items ≡ own.causes (seen graph.now)
+/// What `told_causes` answers.
+pub fn told_causes(
+    alloc: Global,
+    graph: &Priced<'_>,
+    pair: Pair,
+) -> Result<Vec<FieldCause>, AllocError>
+    ensures { IfOk result (λ told. map spec.told_of told.items
+        ≡ spec.told_causes (seen graph.now)
         (shape_of graph.now.old.now) (shape_of graph.now.new.now) pair) }
 {
-    pg_pairs::causes(alloc, graph, pair)
+    pg_pairs::told_causes(alloc, graph, pair)
 }
 
 /// What `carry_cause` answers.

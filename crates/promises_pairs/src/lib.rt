@@ -25,7 +25,7 @@ ghost use Rattle.pg_pairs.specs.bounds.Laws.{ReachedBy};
 ghost use Rattle.pg_pairs.specs.gaps.TrueGaps.{IsTrueOf};
 ghost use Rattle.pg_pairs.specs.graph.GraphView.{seen};
 
-pub use causing::{carry_cause, causes};
+pub use causing::{carry_cause, told_causes};
 pub use graph::{base, edge_cost, edges, knows, priced, reached_from, reached_pairs};
 pub use names::{
     alike_as_named, alike_by_name, least_as_named, least_by_name, name, name_of_names,

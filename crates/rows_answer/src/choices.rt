@@ -4,7 +4,9 @@ use crate::shown::{Shown, list_or_none};
 use crate::spelled::{pair_of, table_of};
 use kit_rows::cut;
 use pg_cert::Bounds;
-use pg_pairs::{Choice, Pair, Priced, carry_cause, causes, cheapest, choice_child, options};
+use pg_dyn::Message;
+use pg_pairs::laws::causes_are_told;
+use pg_pairs::{Choice, Pair, Priced, carry_cause, cheapest, choice_child, options, told_causes};
 use std::alloc::{AllocError, Global};
 
 /// The choices of the pair by this table.
@@ -75,13 +77,28 @@ pub(crate) fn cheapest_choice(
     }
 }
 
-/// `causes | OLD | NEW | PAIR`: the causes of the pair.
+/// `causes | OLD | NEW | PAIR`: the causes of the pair as they are told.
 pub(crate) fn causes_of(
     alloc: Global,
     graph: &Priced<'_>,
     words: &str,
 ) -> Result<String, AllocError> {
-    list_or_none(alloc, &causes(alloc, graph, pair_of(words))?)
+    list_or_none(alloc, &told_causes(alloc, graph, pair_of(words))?)
+}
+
+/// The message of the first cause of the pair, as it is told, where there is one.
+fn first_carried(
+    alloc: Global,
+    graph: &Priced<'_>,
+    pair: Pair,
+) -> Result<Option<Message>, AllocError> {
+    // The choice of what is told is a cause.
+    causes_are_told();
+    let causes = told_causes(alloc, graph, pair)?;
+    match causes.first() {
+        Some(cause) => Ok(Some(carry_cause(alloc, graph, pair, &cause.choice)?)),
+        None => Ok(None),
+    }
 }
 
 /// `carry_cause | OLD | NEW | PAIR`: the message of the first cause of the pair.
@@ -90,10 +107,8 @@ pub(crate) fn carry_first_cause(
     graph: &Priced<'_>,
     words: &str,
 ) -> Result<String, AllocError> {
-    let pair = pair_of(words);
-    let causes = causes(alloc, graph, pair)?;
-    match causes.first() {
-        Some(cause) => spelled(alloc, graph.old, &carry_cause(alloc, graph, pair, cause)?),
+    match first_carried(alloc, graph, pair_of(words))? {
+        Some(message) => spelled(alloc, graph.old, &message),
         None => String::from_str(alloc, "no cause"),
     }
 }

@@ -1,7 +1,7 @@
 //! How answers are shown.
 use pg_cert::{CertError, PairBound, Verdict};
 use pg_least::PairChoice;
-use pg_pairs::{Choice, Pair, Work};
+use pg_pairs::{Choice, FieldCause, Pair, Work};
 use std::alloc::{AllocError, Global};
 
 /// What is shown as one item of a list.
@@ -18,6 +18,20 @@ impl Shown for Choice {
             cost,
         } = self;
         format!(in alloc; "{number} {} {part} {cost}", case.number())
+    }
+}
+
+impl Shown for FieldCause {
+    fn shown(&self, alloc: Global) -> Result<String, AllocError> {
+        let mut shown = self.choice.shown(alloc)?;
+        if self.numbers.len() > 1 {
+            shown.push_str(" of")?;
+            for number in &self.numbers {
+                shown.push_str(" ")?;
+                shown.push_str(&format!(in alloc; "{number}")?)?;
+            }
+        }
+        Ok(shown)
     }
 }
 

@@ -1,6 +1,7 @@
 pub mod Across
 pub mod AcrossMap
 pub mod AcrossPlain
+pub mod BreaksTold
 pub mod Broken
 pub mod ChildTests
 pub mod Comparands
@@ -19,3 +20,4 @@ pub mod Packed
 pub mod Single
 pub mod ToChildren
 pub mod Ways
+pub mod WaysTold

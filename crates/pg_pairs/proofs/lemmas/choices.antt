@@ -1,12 +1,17 @@
 pub mod Among
+pub mod Apart
 pub mod Cheaper
 pub mod CheapestSteps
 pub mod ChoicePlaces
 pub mod Choosing
+pub mod Comings
 pub mod Costs
 pub mod LeastMembers
 pub mod LowCosts
 pub mod Offers
 pub mod OneofLinks
 pub mod OptionSteps
+pub mod ToldLemmas
+pub mod ToldSteps
 pub mod SmallPairs
+pub mod SmallTold

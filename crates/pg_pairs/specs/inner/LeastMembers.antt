@@ -9,7 +9,7 @@ use Rattle.pg_pairs.specs.declared.choices.least_member.Member.{Member}
 use Rattle.pg_pairs.specs.declared.choices.least_member.Two.{Two}
 use Rattle.pg_pairs.specs.choices.Choices.{choice}
 use Rattle.pg_pairs.specs.choices.Costs.{least_content}
-use Rattle.pg_pairs.specs.inner.NewOneof.{new_oneof}
+use Rattle.pg_pairs.specs.choices.NewOneof.{new_oneof}
 
 abbrev pub member_of : FieldShape → Member
 member_of f = record { number = f.number; cost = least_content f; oneof = f.oneof }

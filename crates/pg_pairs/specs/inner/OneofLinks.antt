@@ -9,7 +9,7 @@ use Rattle.pg_dyn.specs.reading.Content.{same_oneof}
 use Rattle.pg_pairs.specs.declared.choices.choice.Choice.{Choice}
 use Rattle.pg_pairs.specs.declared.choices.oneof_links.Link.{Link}
 use Rattle.pg_pairs.specs.choices.Choices.{affordable, joined_choices}
-use Rattle.pg_pairs.specs.inner.NewOneof.{new_oneof}
+use Rattle.pg_pairs.specs.choices.NewOneof.{new_oneof}
 
 -- the choices of a field with the later ones from that index on
 abbrev pub joined_from : List FieldShape → FieldShape → List Field → ℕ → List Choice

@@ -1,4 +1,4 @@
-//! The causes of a pair: its choices that need no child, and the messages that reach them.
+//! The message by which a cause of a pair is reached: a choice that needs no child.
 
 ghost use Rattle.std.specs.Prelude.{◌≡◌, None, IfOk};
 ghost use Rattle.pg_schema.specs.Parts.{shape_of};
@@ -11,27 +11,15 @@ ghost use Rattle.pg_pairs.specs.bounds.Laws.{ReachedBy};
 ghost use Rattle.pg_pairs.specs.graph.GraphView.{seen};
 
 use crate::choices::choice::{Choice, Pair};
-use crate::choices::option_list::options;
 use crate::graph::priced::Priced;
-use crate::graph::table::NoBounds;
 use crate::laws::{causes_are_own, sees};
 use crate::witness::message::carry;
 use pg_dyn::Message;
 use std::alloc::{AllocError, Global};
 
-/// The ways in which a message of the pair's old type can break beside its new one without a child,
-/// each with the bytes of the shortest message that breaks so, by number, case and part.
-///
-/// Refused only where memory is.
-pub fn causes(alloc: Global, graph: &Priced<'_>, pair: Pair) -> Result<Vec<Choice>, AllocError>
-    ensures { IfOk result (λ cs. cs.items ≡ causes (seen graph.now)
-        (shape_of graph.now.old.now) (shape_of graph.now.new.now) pair) }
-{
-    options(alloc, graph, pair, &NoBounds)
-}
-
 /// The message by which the cause is reached, a message of the pair's old type. It breaks and has
-/// just the cause's cost. The cause has to be one that `causes` gives for the pair under this view.
+/// just the cause's cost. The cause has to be a choice of the pair that needs no child, as those
+/// that `told_causes` gives.
 ///
 /// Refused only where memory is.
 pub fn carry_cause(

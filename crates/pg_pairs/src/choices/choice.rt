@@ -12,8 +12,8 @@ pub struct Pair {
     pub new: TypeId,
 }
 
-/// A way in which a message of the old type can break, and the length of the shortest message that
-/// breaks so.
+/// A way in which a message of the old type can break, and the length of a message that does, as
+/// `carry` makes it.
 #[derive(Clone, Copy, Debug, PartialEq, Eq)]
 pub struct Choice {
     /// The number of the field that breaks; of two fields that meet the smaller one.

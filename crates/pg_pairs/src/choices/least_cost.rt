@@ -20,7 +20,7 @@ use std::alloc::{AllocError, Global};
 use std::collections::HashMap;
 
 /// The first of those choices that cost the least.
-fn first_cheapest(choices: &[Choice]) -> Option<Choice>
+pub(crate) fn first_cheapest(choices: &[Choice]) -> Option<Choice>
     ensures { result ≡ cheapest choices.now }
 {
     let mut found: Option<Choice> = None;
@@ -34,7 +34,7 @@ fn first_cheapest(choices: &[Choice]) -> Option<Choice>
 }
 
 /// A former choice, or a later one that costs less.
-fn first_of(former: Option<Choice>, later: Option<Choice>) -> Option<Choice>
+pub(crate) fn first_of(former: Option<Choice>, later: Option<Choice>) -> Option<Choice>
     ensures { result ≡ first_of former later }
 {
     let Some(kept) = former else {

@@ -6,7 +6,7 @@ ghost use Rattle.pg_schema.specs.Shape.{FieldShape};
 ghost use Rattle.pg_dyn.specs.reading.Content.{same_oneof};
 ghost use Rattle.pg_pairs.specs.choices.Choices.{affordable};
 ghost use Rattle.pg_pairs.specs.inner.LeastMembers.{IsOrdered, KeepsLeast, beside, least_member, lesser, member_of, met_choices};
-ghost use Rattle.pg_pairs.specs.inner.NewOneof.{new_oneof};
+ghost use Rattle.pg_pairs.specs.choices.NewOneof.{new_oneof};
 
 use crate::choices::case::Case;
 use crate::choices::choice::Choice;

@@ -4,7 +4,7 @@ ghost use Rattle.std.specs.Prelude.{◌≡◌, ◌≤◌, ℕ, length, List, Opt
 ghost use Rattle.pg_schema.specs.Parts.{field_shape, shape_of};
 ghost use Rattle.pg_schema.specs.Shape.{FieldShape, fields};
 ghost use Rattle.pg_dyn.specs.reading.Content.{same_oneof};
-ghost use Rattle.pg_pairs.specs.inner.NewOneof.{new_oneof};
+ghost use Rattle.pg_pairs.specs.choices.NewOneof.{new_oneof};
 ghost use Rattle.pg_pairs.specs.inner.OneofLinks.{AreLinks, IsAny, IsBeside, IsOutside, Passes, first_in};
 
 use crate::choices::new_oneof::{new_oneof, same_oneof};

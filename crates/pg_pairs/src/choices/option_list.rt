@@ -40,7 +40,7 @@ fn choices_of<T: Table>(
 }
 
 /// The ways in which a message of the pair's old type can break beside its new one, each with the
-/// bytes of the shortest message that breaks so, by number, case and part. Children cost what the
+/// bytes of the message that `carry` makes of it, by number, case and part. Children cost what the
 /// table says of them.
 ///
 /// Refused only where memory is.

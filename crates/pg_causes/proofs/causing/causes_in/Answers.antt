@@ -6,8 +6,7 @@ use Rattle.pg_dyn.proofs.Lists.{each-append}
 use Rattle.pg_pairs.specs.graph.GraphView.{seen}
 use Rattle.pg_cert.specs.declared.bounds.PairBound.{PairBound}
 use Rattle.pg_least.proofs.PublicLaws.{tables_by_lines}
-use Rattle.pg_causes.specs.Causes.{IsCause, causes_at}
-use Rattle.pg_causes.specs.declared.overview.Cause.{Cause}
+use Rattle.pg_causes.specs.Causes.{IsCause, causes_at, told_in}
 use Rattle.pg_causes.proofs.Going.{flat_more, nothing_at}
 use Rattle.pg_causes.proofs.causing.causes_in.Goals.{in-Some+in_ok-more+in_ok-append, in_default}
 use Rattle.pg_causes.proofs.causing.causes_in.Goals as goal
@@ -30,7 +29,7 @@ loop-index-preserved c =
           let step = flat_more causes (λ (b : PairBound). b.pair) c.args.bounds.now c.loop-index.index w.in-Some.line (sym c.get.ensures ∙ w.in-Some.is) in
           record {
             are =
-                ap (map (λ (x : Cause). x.at)) all ∙ (map-append (λ (x : Cause). x.at) before more
+                ap (map told_in) all ∙ (map-append told_in before more
                 ∙ (ap₂ (λ xs ys. xs ++ ys) c.loop-index.invariant.are w.in_ok-more.ensures.are ∙ sym step));
             each = subst (AllByRecursion holds) (sym all) (each-append holds before more c.loop-index.invariant.each w.in_ok-more.ensures.each);
           }

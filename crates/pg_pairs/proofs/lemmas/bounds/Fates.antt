@@ -45,7 +45,7 @@ use Rattle.pg_pairs.proofs.lemmas.bounds.Decisions.{leaf_or, comparand_or, each_
 use Rattle.pg_dyn.proofs.PublicLaws.{bodies_read_again}
 use Rattle.pg_pairs.proofs.lemmas.bounds.Ways.{Passes, plain_across, map_across, PlainWay, Crosses, Hides}
 
-leafy_or_not : (e : Element) → IsLeafy e ⊎ (nonzero_body e ≡ least_body e)
+pub leafy_or_not : (e : Element) → IsLeafy e ⊎ (nonzero_body e ≡ least_body e)
 leafy_or_not (elements.Scalar s) = inl tt
 leafy_or_not (elements.Enum s) = inl tt
 leafy_or_not (elements.Message s) = inr refl

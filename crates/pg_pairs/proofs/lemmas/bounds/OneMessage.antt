@@ -123,11 +123,11 @@ module _ (view : View) (old new : Shape) (shape_old : IsShape old) (a b : TypeId
   each_has_field (nests number key child later) h = ((h.0.field, h.0.found), each_has_field later h.4)
 
   -- the old field of a comparand
-  comparand_field : (n : ℕ) (c : Comparand) (rest : List Comparand) → comparands_at n cs ≡ c ∷ rest → (f : FieldShape) × (field_at fs n ≡ Some f)
+  pub comparand_field : (n : ℕ) (c : Comparand) (rest : List Comparand) → comparands_at n cs ≡ c ∷ rest → (f : FieldShape) × (field_at fs n ≡ Some f)
   unfolding HasField
   comparand_field n c rest some = search (rules, each-filter, each_has_field, eqb-true)
 
-  not_in_old : (f e : FieldShape) → field_at fs f.number ≡ Some f → field_at fs e.number ≡ Some e → f.number ≢ e.number → (c d : Comparand) (xs ys : List Comparand) → comparands_at f.number cs ≡ c ∷ xs → comparands_at e.number cs ≡ d ∷ ys → same_oneof f.oneof e.oneof ≡ false
+  pub not_in_old : (f e : FieldShape) → field_at fs f.number ≡ Some f → field_at fs e.number ≡ Some e → f.number ≢ e.number → (c d : Comparand) (xs ys : List Comparand) → comparands_at f.number cs ≡ c ∷ xs → comparands_at e.number cs ≡ d ∷ ys → same_oneof f.oneof e.oneof ≡ false
   not_in_old f e found_f found_e apart c d xs ys some_c some_d =
       ⊎_elim
       (λ one.
@@ -145,9 +145,11 @@ module _ (view : View) (old new : Shape) (shape_old : IsShape old) (a b : TypeId
     pub second : field_at fs e.number ≡ Some e
     pub rise : f.number < e.number
     pub joined : joins gs f e ≡ true
+    pub first_held : comparands_at f.number cs ≡ [] → ⊥
+    pub second_held : comparands_at e.number cs ≡ [] → ⊥
     pub cheap : least_content f + least_content e ≤ length (enc old a v)
 
-  meeting : (f e g h : FieldShape) → field_at fs f.number ≡ Some f → field_at fs e.number ≡ Some e → field_at gs f.number ≡ Some g → field_at gs e.number ≡ Some h → same_oneof g.oneof h.oneof ≡ true → same_oneof f.oneof e.oneof ≡ false → f.number < e.number → (c d : Comparand) (xs ys : List Comparand) → comparands_at f.number cs ≡ c ∷ xs → comparands_at e.number cs ≡ d ∷ ys → Meets f e
+  pub meeting : (f e g h : FieldShape) → field_at fs f.number ≡ Some f → field_at fs e.number ≡ Some e → field_at gs f.number ≡ Some g → field_at gs e.number ≡ Some h → same_oneof g.oneof h.oneof ≡ true → same_oneof f.oneof e.oneof ≡ false → f.number < e.number → (c d : Comparand) (xs ys : List Comparand) → comparands_at f.number cs ≡ c ∷ xs → comparands_at e.number cs ≡ d ∷ ys → Meets f e
   meeting f e g h found_f found_e at_g at_h one not_old below c d xs ys some_c some_d =
       let both = two_within recs fs type_old.rising f.number e.number f e found_f found_e below in
       let first = least_within f found_f c xs some_c in
@@ -157,6 +159,8 @@ module _ (view : View) (old new : Shape) (shape_old : IsShape old) (a b : TypeId
         second = found_e;
         rise = below;
         joined = rw (not_old, at_g, at_h, one);
+        first_held = nonempty c xs (comparands_at f.number cs) some_c;
+        second_held = nonempty d ys (comparands_at e.number cs) some_d;
         cheap = omega (arith, both, own_total f, own_total e, length_is, first, second);
       }
 

@@ -11,7 +11,7 @@ use Rattle.pg_pairs.specs.declared.choices.least_member.Two.{Two}
 use Rattle.pg_pairs.specs.views.EnumView.{EnumView}
 use Rattle.pg_pairs.specs.choices.Choices.{Table, choices_beside, joined_choices, all_choices, affordable, cheapest}
 use Rattle.pg_pairs.specs.laws.CheapestLaws.{first_of}
-use Rattle.pg_pairs.specs.inner.NewOneof.{new_oneof}
+use Rattle.pg_pairs.specs.choices.NewOneof.{new_oneof}
 use Rattle.pg_pairs.specs.inner.LeastMembers.{member_of, least_member, met_choices, beside, KeepsLeast}
 use Rattle.pg_pairs.proofs.lemmas.choices.Cheaper.{same-below, cheapest-within}
 use Rattle.pg_pairs.proofs.lemmas.choices.LeastMembers.{cheapest-joined}
@@ -31,7 +31,7 @@ cheapest_before enum_view table gs f fs =
 
 -- after the last field
 
-past_end : {A : Type 0} (xs : List A) → drop (length xs) xs ≡ []
+pub past_end : {A : Type 0} (xs : List A) → drop (length xs) xs ≡ []
 past_end [] = refl
 past_end (x ∷ xs) = past_end xs
 
@@ -43,7 +43,7 @@ kept_at_end gs list kept empty = search (rules, past_end)
 
 -- the step of the loop, which goes down to the index before
 module _ (list : List Field) (at : ℕ) (f : Field) (positive : 1 ≤ at) (small : at ≤ length list) (is : f ≡ slice_index_or list (at - 1) f) where
-  row : field_shape f ∷ map field_shape (drop at list) ≡ map field_shape (drop (at - 1) list)
+  pub row : field_shape f ∷ map field_shape (drop at list) ≡ map field_shape (drop (at - 1) list)
   row = search (rules, drop_at)
 
   -- of the row that the field's own choices and the one with the field that it meets make, beside what was found after it

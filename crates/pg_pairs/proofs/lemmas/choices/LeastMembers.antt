@@ -8,11 +8,11 @@ use Rattle.pg_dyn.specs.reading.Content.{same_oneof}
 use Rattle.pg_pairs.specs.declared.choices.least_member.Member.{Member}
 use Rattle.pg_pairs.specs.declared.choices.least_member.Two.{Two}
 use Rattle.pg_pairs.specs.choices.Choices.{in_one_oneof, joins, joined_choices, cheaper, cheapest}
-use Rattle.pg_pairs.specs.inner.NewOneof.{new_oneof}
+use Rattle.pg_pairs.specs.choices.NewOneof.{new_oneof}
 use Rattle.pg_pairs.specs.inner.LeastMembers.{member_of, lesser, least_member, joined_with, met_choices, beside, IsOrdered, KeepsLeast}
 
 -- a test of two numbers, the other way round
-turned : (j k : ℕ) (b : Bool) → nat_eq j k ≡ b → nat_eq k j ≡ b
+pub turned : (j k : ℕ) (b : Bool) → nat_eq j k ≡ b → nat_eq k j ≡ b
 turned j k true h = eq-eqb k j (sym (eqb-true j k h))
 turned j k false h = elim (nat_eq k j) as (λ b. nat_eq k j ≡ b → b ≡ false) [ true ↦ λ e. absurd (let same : nat_eq j k ≡ true = eq-eqb j k (sym (eqb-true k j e)) in cc) | false ↦ λ e. refl ] refl
 

@@ -194,7 +194,7 @@ module _ (enum_view : EnumView) where
           low-offered f.number case part (option_map (one_item f) (gap_body enum_view counts f.element g.element))
           (mapped_low (one_item f) 20 100 (λ n up. let near = item_near f n in omega arith) (gap_body enum_view counts f.element g.element) (gap_low enum_view counts f.element g.element))
 
-  low-all : (gs fs : List FieldShape) → AreLow (all_choices enum_view no_bounds gs fs)
+  pub low-all : (gs fs : List FieldShape) → AreLow (all_choices enum_view no_bounds gs fs)
   low-all = each_choice (λ (c : Choice). c.cost ≤ 100) enum_view no_bounds low-each (λ a b. let one = content_low a in let other = content_low b in omega arith)
 
   pub causes_are_low : (old new : Shape) (pair : Pair) (c : Choice) → IsAmong c (causes enum_view old new pair) → c.cost ≤ 100

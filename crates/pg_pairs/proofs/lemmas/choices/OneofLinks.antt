@@ -10,17 +10,17 @@ use Rattle.pg_pairs.specs.declared.choices.choice.Choice.{Choice}
 use Rattle.pg_pairs.specs.declared.choices.oneof_links.Link.{Link}
 use Rattle.pg_pairs.specs.choices.Choices.{affordable, choice, in_one_oneof, joined_choices, joins}
 use Rattle.pg_pairs.specs.choices.Costs.{least_content}
-use Rattle.pg_pairs.specs.inner.NewOneof.{new_oneof}
+use Rattle.pg_pairs.specs.choices.NewOneof.{new_oneof}
 use Rattle.pg_pairs.specs.inner.OneofLinks.{joined_from, Passes, IsAny, IsBeside, IsOutside, LeadsFrom, IsLink, AreLinks}
 use Rattle.pg_pairs.proofs.lemmas.choices.LeastMembers.{joins_is}
 use Rattle.pg_pairs.proofs.lemmas.choices.OptionSteps.{affordable-append, drop_at, item_is}
 
-one : (o q : Option ℕ) → same_oneof o q ≡ true → o ≡ q
+pub one : (o q : Option ℕ) → same_oneof o q ≡ true → o ≡ q
 one (Some a) (Some b) h = ap Some (eqb-true a b h)
 one (Some a) None h = absurd (cc)
 one None q h = absurd (cc)
 
-turned : (o q : Option ℕ) → same_oneof o q ≡ true → same_oneof q o ≡ true
+pub turned : (o q : Option ℕ) → same_oneof o q ≡ true → same_oneof q o ≡ true
 turned o q h = subst₂ (λ x y. same_oneof x y ≡ true) (one o q h) (sym (one o q h)) h
 
 pub outside_by : (list : List Field) (f g : Field) (to : ℕ) → g ≡ slice_index_or list to g → same_oneof f.oneof g.oneof ≡ false → IsOutside list f to

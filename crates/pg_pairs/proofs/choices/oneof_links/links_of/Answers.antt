@@ -2,7 +2,7 @@ use Rattle.std.proofs.Common.{arith, ◌≡◌, ◌<◌, ◌-◌, ◌∙◌, suc
 use Rattle.pg_schema.specs.Parts.{field_shape, shape_of}
 use Rattle.pg_schema.specs.Shape.{fields}
 use Rattle.pg_dyn.specs.reading.Content.{same_oneof}
-use Rattle.pg_pairs.specs.inner.NewOneof.{new_oneof}
+use Rattle.pg_pairs.specs.choices.NewOneof.{new_oneof}
 use Rattle.pg_pairs.specs.inner.OneofLinks.{AreFirst, AreLinks, IsAny, Passes, first_in}
 use Rattle.pg_pairs.proofs.lemmas.choices.OneofLinks.{first_before, links_before, linked}
 use Rattle.pg_pairs.proofs.choices.oneof_links.links_of.Goals as goal

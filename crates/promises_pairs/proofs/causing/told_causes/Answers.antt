@@ -1,5 +1,5 @@
 use Rattle.std.proofs.Common.{rules}
-use Rattle.promises_pairs.proofs.causing.causes.Goals as goal
+use Rattle.promises_pairs.proofs.causing.told_causes.Goals as goal
 
 pub returns : goal.returns
 returns c = search rules
