@@ -1,0 +1,4 @@
+pub mod MayWrite
+pub mod Sees
+pub mod Examples
+pub mod Laws
