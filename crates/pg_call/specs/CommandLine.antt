@@ -16,6 +16,14 @@ defaulted name value =
 abbrev pub folder : Text → Rule
 folder name = defaulted name (codes ".")
 
+-- `--NAME VALUE`, which may be left out
+abbrev pub optional : Text → Rule
+optional name = record (new_rule name) { long = Some name; value_names = 1 }
+
+-- `--NAME VALUE`, as often as needed
+abbrev pub each : Text → Rule
+each name = record (new_rule name) { long = Some name; value_names = 1; action = Some Append }
+
 -- `--view VIEW`, one of these names, by default `numbers`
 abbrev pub view_option : Bor (List (Bor Text)) → Rule
 view_option names = record (defaulted (codes "view") (codes "numbers")) { parser = Some (parsers.Names names) }
@@ -24,17 +32,13 @@ view_option names = record (defaulted (codes "view") (codes "numbers")) { parser
 abbrev pub named : Text → Rule
 named name = record (new_rule name) { long = Some name; value_names = 1; required = true }
 
--- `--NAME VALUE`, once or more
-abbrev pub named_each : Text → Rule
-named_each name = record (named name) { action = Some Append }
-
 -- an argument without a name
 abbrev pub positional : Text → Rule
 positional name = record (new_rule name) { required = true }
 
--- one or more arguments without a name
+-- arguments without a name, as often as needed
 abbrev pub positionals : Text → Rule
-positionals name = record (positional name) { action = Some Append }
+positionals name = record (new_rule name) { action = Some Append }
 
 -- `--NAME`
 abbrev pub flag : Text → Rule
@@ -47,7 +51,8 @@ with_rules app [] = app
 with_rules app (rule ∷ rules) = with_rules (with_rule app rule) rules
 
 abbrev pub compile_app : App
-compile_app = with_rules (new_app (codes "compile")) (folder (codes "dir") ∷ positionals (codes "FILE") ∷ [])
+compile_app = with_rules (new_app (codes "compile")) (folder (codes "dir") ∷ each (codes "include")
+    ∷ optional (codes "files-from") ∷ positionals (codes "FILE") ∷ [])
 
 -- the names of the views
 abbrev pub view_names : List Text
@@ -56,23 +61,28 @@ view_names = codes "numbers" ∷ codes "names" ∷ []
 -- the gate's, with the names of the views that this reference leads to
 abbrev pub gate_app : Bor (List (Bor Text)) → App
 gate_app names = with_rules (new_app (codes "gate")) (folder (codes "old-dir") ∷ folder (codes "new-dir")
+    ∷ each (codes "old-include") ∷ each (codes "new-include")
     ∷ named (codes "old") ∷ named (codes "new") ∷ named (codes "type") ∷ flag (codes "cert")
-    ∷ flag (codes "both") ∷ flag (codes "explain") ∷ view_option names ∷ [])
+    ∷ flag (codes "both") ∷ flag (codes "explain") ∷ flag (codes "json") ∷ view_option names ∷ [])
 
 abbrev pub gate_all_app : Bor (List (Bor Text)) → App
 gate_all_app names = with_rules (new_app (codes "gate-all")) (folder (codes "old-dir") ∷ folder (codes "new-dir")
-    ∷ named_each (codes "old") ∷ named_each (codes "new") ∷ flag (codes "explain") ∷ view_option names ∷ [])
+    ∷ each (codes "old-include") ∷ each (codes "new-include")
+    ∷ each (codes "old") ∷ each (codes "new") ∷ optional (codes "old-files-from") ∷ optional (codes "new-files-from")
+    ∷ flag (codes "explain") ∷ flag (codes "json") ∷ flag (codes "notes") ∷ view_option names ∷ [])
 
 abbrev pub verify_app : App
 verify_app = with_rules (new_app (codes "verify")) (folder (codes "old-dir") ∷ folder (codes "new-dir")
-    ∷ named (codes "old") ∷ named (codes "new") ∷ positional (codes "CERT") ∷ [])
+    ∷ each (codes "old-include") ∷ each (codes "new-include")
+    ∷ named (codes "old") ∷ named (codes "new") ∷ flag (codes "json") ∷ positional (codes "CERT") ∷ [])
 
 abbrev pub show_app : App
-show_app = with_rules (new_app (codes "show")) (folder (codes "dir") ∷ named (codes "file") ∷ named (codes "type")
-    ∷ positional (codes "HEX") ∷ [])
+show_app = with_rules (new_app (codes "show")) (folder (codes "dir") ∷ each (codes "include")
+    ∷ named (codes "file") ∷ named (codes "type") ∷ flag (codes "json") ∷ positional (codes "HEX") ∷ [])
 
 abbrev pub types_app : App
-types_app = with_rules (new_app (codes "types")) (folder (codes "dir") ∷ positionals (codes "FILE") ∷ [])
+types_app = with_rules (new_app (codes "types")) (folder (codes "dir") ∷ each (codes "include")
+    ∷ optional (codes "files-from") ∷ flag (codes "json") ∷ positionals (codes "FILE") ∷ [])
 
 abbrev pub top_app : App
 top_app = let app = new_app (codes "protogate") in

@@ -49,6 +49,29 @@ fn folder<'a>(alloc: Global, name: &'a str, help: &'a str) -> Arg<'a>
     defaulted(alloc, name, "D", ".", help)
 }
 
+/// An option that may be left out.
+fn optional<'a>(alloc: Global, name: &'a str, value: &'a str, help: &'a str) -> Arg<'a>
+    ensures rule { rule_of result ≡ command_line.optional name.entry.now }
+    ensures local { result.global ≡ false }
+{
+    Arg::new(alloc, name)
+        .long(name)
+        .value_name(value)
+        .help(help)
+}
+
+/// An option that may be there as often as needed.
+fn each<'a>(alloc: Global, name: &'a str, value: &'a str, help: &'a str) -> Arg<'a>
+    ensures rule { rule_of result ≡ command_line.each name.entry.now }
+    ensures local { result.global ≡ false }
+{
+    Arg::new(alloc, name)
+        .long(name)
+        .value_name(value)
+        .action(ArgAction::Append)
+        .help(help)
+}
+
 /// The view by which enums are compared, one of these names: by default the numbers alone.
 fn view_option<'a>(alloc: Global, names: &'a [&'a str]) -> Arg<'a>
     ensures rule { rule_of result ≡ command_line.view_option names.entry }
@@ -70,14 +93,6 @@ fn named<'a>(alloc: Global, name: &'a str, value: &'a str, help: &'a str) -> Arg
         .help(help)
 }
 
-/// An option that has to be there, once or more.
-fn named_each<'a>(alloc: Global, name: &'a str, value: &'a str, help: &'a str) -> Arg<'a>
-    ensures rule { rule_of result ≡ command_line.named_each name.entry.now }
-    ensures local { result.global ≡ false }
-{
-    named(alloc, name, value, help).action(ArgAction::Append)
-}
-
 /// An argument without a name that has to be there.
 fn positional<'a>(alloc: Global, name: &'a str, help: &'a str) -> Arg<'a>
     ensures rule { rule_of result ≡ command_line.positional name.entry.now }
@@ -86,12 +101,12 @@ fn positional<'a>(alloc: Global, name: &'a str, help: &'a str) -> Arg<'a>
     Arg::new(alloc, name).required(true).help(help)
 }
 
-/// An argument without a name that has to be there, once or more.
+/// An argument without a name that may be there as often as needed.
 fn positionals<'a>(alloc: Global, name: &'a str, help: &'a str) -> Arg<'a>
     ensures rule { rule_of result ≡ command_line.positionals name.entry.now }
     ensures local { result.global ≡ false }
 {
-    positional(alloc, name, help).action(ArgAction::Append)
+    Arg::new(alloc, name).action(ArgAction::Append).help(help)
 }
 
 /// An option without a value.
@@ -116,8 +131,9 @@ fn argument_of<'a>(alloc: Global, description: &Description, views: Views<'a>) -
 {
     match *description {
         Description::Folder(name, help) => folder(alloc, name, help),
+        Description::Optional(name, value, help) => optional(alloc, name, value, help),
+        Description::Each(name, value, help) => each(alloc, name, value, help),
         Description::Named(name, value, help) => named(alloc, name, value, help),
-        Description::NamedEach(name, value, help) => named_each(alloc, name, value, help),
         Description::Positional(name, help) => positional(alloc, name, help),
         Description::Positionals(name, help) => positionals(alloc, name, help),
         Description::Flag(name, help) => flag(alloc, name, help),
@@ -237,14 +253,23 @@ fn view(found: &ArgMatches<'_>, name: &str) -> ViewName
     view_if(text(found, name) == "names")
 }
 
-/// The files that one option names, below the folder that the other does.
-fn files<'m>(found: &'m ArgMatches<'_>, folder: &str, name: &str) -> Files<'m>
+/// The files that one option names, below the folder that another does, with the included folders
+/// of a third and the list of a fourth.
+fn files<'m>(
+    found: &'m ArgMatches<'_>,
+    folder: &str,
+    include: &str,
+    name: &str,
+    list: &str,
+) -> Files<'m>
     ensures { paths_in result
-        ≡ spec.paths_at folder.now name.now (rows_of (found_of found.now)) }
+        ≡ spec.paths_at folder.now include.now name.now list.now (rows_of (found_of found.now)) }
 {
     Files {
         folder: text(found, folder),
+        includes: texts(found, include),
         paths: texts(found, name),
+        list: texts(found, list),
     }
 }
 
@@ -253,8 +278,8 @@ fn both_files<'m>(found: &'m ArgMatches<'_>) -> BothFiles<'m>
     ensures { both_paths result ≡ spec.both_in (rows_of (found_of found.now)) }
 {
     BothFiles {
-        old: files(found, "old-dir", "old"),
-        new: files(found, "new-dir", "new"),
+        old: files(found, "old-dir", "old-include", "old", "old-files-from"),
+        new: files(found, "new-dir", "new-include", "new", "new-files-from"),
     }
 }
 
@@ -267,6 +292,7 @@ fn gate_call<'m>(found: &'m ArgMatches<'_>) -> Call<'m>
         certificate_only: is_set(found, "cert"),
         both: is_set(found, "both"),
         explain: is_set(found, "explain"),
+        json: is_set(found, "json"),
         view: view(found, "view"),
     })
 }
@@ -277,6 +303,8 @@ fn gate_all_call<'m>(found: &'m ArgMatches<'_>) -> Call<'m>
     Call::GateAll(GateAllCall {
         files: both_files(found),
         explain: is_set(found, "explain"),
+        json: is_set(found, "json"),
+        notes: is_set(found, "notes"),
         view: view(found, "view"),
     })
 }
@@ -287,6 +315,7 @@ fn verify_call<'m>(found: &'m ArgMatches<'_>) -> Call<'m>
     Call::Verify {
         files: both_files(found),
         certificate: text(found, "CERT"),
+        json: is_set(found, "json"),
     }
 }
 
@@ -294,10 +323,20 @@ fn show_call<'m>(found: &'m ArgMatches<'_>) -> Call<'m>
     ensures { spec.request_of result ≡ spec.show_in (rows_of (found_of found.now)) }
 {
     Call::Show(ShowCall {
-        files: files(found, "dir", "file"),
+        files: files(found, "dir", "include", "file", "files-from"),
         root: text(found, "type"),
         word: text(found, "HEX"),
+        json: is_set(found, "json"),
     })
+}
+
+fn types_call<'m>(found: &'m ArgMatches<'_>) -> Call<'m>
+    ensures { spec.request_of result ≡ spec.types_in (rows_of (found_of found.now)) }
+{
+    Call::Types {
+        files: files(found, "dir", "include", "FILE", "files-from"),
+        json: is_set(found, "json"),
+    }
 }
 
 /// What the subcommand of this name calls for.
@@ -306,11 +345,11 @@ fn call_in<'m>(name: &str, found: &'m ArgMatches<'_>) -> Call<'m>
         ≡ spec.request_in (name.now, rows_of (found_of found.now)) }
 {
     match name {
-        "compile" => Call::Compile(files(found, "dir", "FILE")),
+        "compile" => Call::Compile(files(found, "dir", "include", "FILE", "files-from")),
         "gate" => gate_call(found),
         "gate-all" => gate_all_call(found),
         "verify" => verify_call(found),
-        "types" => Call::Types(files(found, "dir", "FILE")),
+        "types" => types_call(found),
         _ => show_call(found),
     }
 }

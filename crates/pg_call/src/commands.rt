@@ -1,19 +1,24 @@
 //! The subcommands, with their arguments.
 
-use crate::help::{Answers, NEW_FILE, NEW_FILES, OLD_FILE, OLD_FILES, SHOWN_FILE};
+use crate::help::{
+    Answers, INCLUDE, JSON, LIST, NEW_FILE, NEW_FILES, NEW_INCLUDE, NEW_LIST, OLD_FILE, OLD_FILES,
+    OLD_INCLUDE, OLD_LIST, SHOWN_FILE,
+};
 
 /// An argument: its name, what its value is called where that has to be said, and what help says.
 #[derive(Clone, Copy)]
 pub(crate) enum Description {
     /// A folder, by default the current one.
     Folder(&'static str, &'static str),
+    /// An option that may be left out.
+    Optional(&'static str, &'static str, &'static str),
+    /// An option that may be there as often as needed.
+    Each(&'static str, &'static str, &'static str),
     /// An option that has to be there.
     Named(&'static str, &'static str, &'static str),
-    /// An option that has to be there, once or more.
-    NamedEach(&'static str, &'static str, &'static str),
     /// An argument without a name that has to be there.
     Positional(&'static str, &'static str),
-    /// An argument without a name that has to be there, once or more.
+    /// An argument without a name that may be there as often as needed.
     Positionals(&'static str, &'static str),
     /// An option without a value.
     Flag(&'static str, &'static str),
@@ -36,6 +41,8 @@ const COMPILE: Subcommand = Subcommand {
     answers: Answers::Compile,
     arguments: &[
         Description::Folder("dir", "The folder of the files and of their imports"),
+        Description::Each("include", "D", INCLUDE),
+        Description::Optional("files-from", "LIST", LIST),
         Description::Positionals("FILE", "The proto3 files"),
     ],
 };
@@ -47,6 +54,8 @@ const GATE: Subcommand = Subcommand {
     arguments: &[
         Description::Folder("old-dir", "The folder of the old file"),
         Description::Folder("new-dir", "The folder of the new file"),
+        Description::Each("old-include", "D", OLD_INCLUDE),
+        Description::Each("new-include", "D", NEW_INCLUDE),
         Description::Named("old", "F", OLD_FILE),
         Description::Named("new", "F", NEW_FILE),
         Description::Named("type", "NAME", "The message type, by its full name"),
@@ -62,6 +71,7 @@ const GATE: Subcommand = Subcommand {
             "explain",
             "Show what breaks as both sides read it; with --cert it does nothing",
         ),
+        Description::Flag("json", JSON),
         Description::View,
     ],
 };
@@ -73,9 +83,18 @@ const GATE_ALL: Subcommand = Subcommand {
     arguments: &[
         Description::Folder("old-dir", "The folder of the old files"),
         Description::Folder("new-dir", "The folder of the new files"),
-        Description::NamedEach("old", "F", OLD_FILES),
-        Description::NamedEach("new", "F", NEW_FILES),
+        Description::Each("old-include", "D", OLD_INCLUDE),
+        Description::Each("new-include", "D", NEW_INCLUDE),
+        Description::Each("old", "F", OLD_FILES),
+        Description::Each("new", "F", NEW_FILES),
+        Description::Optional("old-files-from", "LIST", OLD_LIST),
+        Description::Optional("new-files-from", "LIST", NEW_LIST),
         Description::Flag("explain", "Show each cause as both sides read it"),
+        Description::Flag("json", JSON),
+        Description::Flag(
+            "notes",
+            "Note what else changed, as names; no status changes",
+        ),
         Description::View,
     ],
 };
@@ -87,8 +106,11 @@ const VERIFY: Subcommand = Subcommand {
     arguments: &[
         Description::Folder("old-dir", "The folder of the old file"),
         Description::Folder("new-dir", "The folder of the new file"),
+        Description::Each("old-include", "D", OLD_INCLUDE),
+        Description::Each("new-include", "D", NEW_INCLUDE),
         Description::Named("old", "F", OLD_FILE),
         Description::Named("new", "F", NEW_FILE),
+        Description::Flag("json", JSON),
         Description::Positional("CERT", "The certificate's file, from the current folder"),
     ],
 };
@@ -99,8 +121,10 @@ const SHOW: Subcommand = Subcommand {
     answers: Answers::Show,
     arguments: &[
         Description::Folder("dir", "The folder of the file and of its imports"),
+        Description::Each("include", "D", INCLUDE),
         Description::Named("file", "F", SHOWN_FILE),
         Description::Named("type", "NAME", "The message type, by its full name"),
+        Description::Flag("json", JSON),
         Description::Positional(
             "HEX",
             "The bytes, in hexadecimal, two digits each; - for no bytes",
@@ -114,6 +138,9 @@ const TYPES: Subcommand = Subcommand {
     answers: Answers::Types,
     arguments: &[
         Description::Folder("dir", "The folder of the files and of their imports"),
+        Description::Each("include", "D", INCLUDE),
+        Description::Optional("files-from", "LIST", LIST),
+        Description::Flag("json", JSON),
         Description::Positionals(
             "FILE",
             "The proto3 files, or one descriptor set where FILE doesn't end in .proto",

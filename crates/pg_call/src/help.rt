@@ -6,7 +6,7 @@ pub(crate) const STATUSES: &str = "Statuses:
   1  breaks: it misreads some message; with --both, in one direction at least
   2  refused: a fault in a file, a certificate or bytes, or the message type is missing; or gate-all finds one removed
   3  out of memory, or a file or the output failed
-  4  help, the version, or a bad command line
+  4  help, the version, or a bad command line; or a side names no file
   5  bound: a certificate gives only a lower bound on the length of a message that breaks";
 
 /// What help says of a set that is written: what is printed, and the statuses.
@@ -17,7 +17,7 @@ Statuses:
   0  the set is written to standard output, and nothing else
   2  refused: a fault in a file
   3  out of memory, or a file or the output failed
-  4  help, the version, or a bad command line";
+  4  help, the version, or a bad command line; or a side names no file";
 
 /// What help says of the gate's answers: what is printed, and the statuses.
 const GATE_ANSWERS: &str = "Prints lines:
@@ -48,14 +48,17 @@ Statuses:
 const GATE_ALL_ANSWERS: &str = "Prints lines, in this order:
   cause CASE LENGTH HEX NUMBER OLDFIELD OLDPOSITION NEWFIELD NEWPOSITION
                         a field that breaks by itself, in a message type of both sides or one that these lead to;
-                        each is printed once. HEX is a shortest message of its old message type that breaks so.
-                        Two fields that meet in a oneof have the smaller NUMBER, and the names and positions of both
+                        each is printed once. HEX is a shortest message of its old message type that breaks for this reason.
+                        Fields that meet in a oneof are one line, with the names and positions of all that come into it;
+                        NUMBER is the smallest, and HEX holds two of them
   old, new              with --explain, after a cause: each comes before the lines of `show`
                         for HEX by the type of that side, or before a refusal of it
   compatible NAME       no message of this type breaks
   breaks NAME LENGTH    some message does; the shortest have that many bytes
   removed NAME          a message type that only the old side has
   added NAME            a message type that only the new side has
+  note KIND NUMBER OLDNAME OLDPOSITION NEWNAME NEWPOSITION
+                        with --notes, a change that breaks no message, but that JSON, code or a client may see
   refused SIDE CODE POSITION
                         no answer, for a fault of the old or the new side; `man protogate` has each code
 
@@ -66,14 +69,26 @@ CASE says why it breaks:
   list-to-one           a list where the new type has one item
   map                   keys or values of another kind
   map-key, map-value    some key or value is read as another, or not at all
-  oneof                 two fields that a new oneof holds only one of
+  oneof                 fields of which a new oneof holds only one
+
+KIND says what changed; - stands where a side has no number, name or position:
+  field-renamed         a field number has another name; one word more is the number that has the old name now, or -
+  field-moved           a field name has another number, which is one word more
+  number-unreserved     a field number went, and the new type doesn't reserve it
+  presence-dropped      a field can no longer say that it isn't set
+  number-to-list        a single number, bool or enum is a packed list now
+  value-renamed         the number of an enum's value has another name
+  value-gone            the number of an enum's value went
+  method-gone           a method went, and its service is still there
+  service-gone          a method went with its service
+  method-changed        a method takes or answers another message type, or one of them is a stream now, or none
 
 Statuses:
   0  each message type of both sides is compatible, and none is removed
   1  breaks: there is a cause
   2  removed: a message type that only the old side has; or refused: a fault in a file
   3  out of memory, or a file or the output failed
-  4  help, the version, or a bad command line
+  4  help, the version, or a bad command line; or a side names no file
   5  never of gate-all: only verify ends so, where a certificate gives a bound alone";
 
 /// What help says of a message that is shown: what is printed, and the statuses.
@@ -119,7 +134,7 @@ Statuses:
   0  each type is named
   2  refused: a fault in a file
   3  out of memory, or a file or the output failed
-  4  help, the version, or a bad command line";
+  4  help, the version, or a bad command line; or a side names no file";
 
 /// What help says of a side's file.
 pub(crate) const OLD_FILE: &str =
@@ -138,6 +153,29 @@ pub(crate) const NEW_FILES: &str =
 /// What help says of the file by which a message is shown.
 pub(crate) const SHOWN_FILE: &str =
     "The proto3 file, or a descriptor set where F doesn't end in .proto";
+
+/// What help says of included folders.
+pub(crate) const INCLUDE: &str =
+    "An included folder: what --dir lacks is looked for in each in turn; as often as needed";
+
+pub(crate) const OLD_INCLUDE: &str =
+    "An included folder: what --old-dir lacks is looked for in each in turn; as often as needed";
+
+pub(crate) const NEW_INCLUDE: &str =
+    "An included folder: what --new-dir lacks is looked for in each in turn; as often as needed";
+
+/// What help says of the form in which lines are printed.
+pub(crate) const JSON: &str =
+    "Print each line as a JSON object; `protogate.1` has the members of each";
+
+/// What help says of a list.
+pub(crate) const LIST: &str = "A file, from the current folder, whose lines name further files";
+
+pub(crate) const OLD_LIST: &str =
+    "A file, from the current folder, whose lines name further old files";
+
+pub(crate) const NEW_LIST: &str =
+    "A file, from the current folder, whose lines name further new files";
 
 /// What help says of the view by which enums are compared.
 pub(crate) const VIEW: &str =

@@ -10,11 +10,15 @@ pub use command_line::{call_of, matches_of};
 use pg_dyn::ViewName;
 
 /// The files of a side, by their paths below a folder: source files, with all that they import, or
-/// one descriptor set.
+/// one descriptor set. A path that the folder lacks is looked for in the included folders in turn.
+/// The list, where there is one, is a file by its path from the current folder; each of its lines
+/// names a further file of the side.
 #[derive(Clone, Copy)]
 pub struct Files<'a> {
     pub folder: &'a str,
+    pub includes: &'a [&'a str],
     pub paths: &'a [&'a str],
+    pub list: &'a [&'a str],
 }
 
 /// The files of the old and of the new side.
@@ -35,16 +39,21 @@ pub struct GateCall<'a> {
     pub certificate_only: bool,
     pub both: bool,
     pub explain: bool,
+    /// Whether the lines are printed as JSON.
+    pub json: bool,
     pub view: ViewName,
 }
 
 /// What the gate of all message types is asked: what a reader of the new types reads of the
 /// messages that a writer of the old ones writes, for all message types that both sides have. Enums
-/// are compared by the view, and on request each cause is explained.
+/// are compared by the view. On request each cause is explained, and it is noted what else changed.
 #[derive(Clone, Copy)]
 pub struct GateAllCall<'a> {
     pub files: BothFiles<'a>,
     pub explain: bool,
+    /// Whether the lines are printed as JSON.
+    pub json: bool,
+    pub notes: bool,
     pub view: ViewName,
 }
 
@@ -57,6 +66,8 @@ pub struct ShowCall<'a> {
     pub root: &'a str,
     /// The argument that spells the bytes.
     pub word: &'a str,
+    /// Whether the line is printed as JSON.
+    pub json: bool,
 }
 
 /// The arguments of a command line, as they are meant.
@@ -70,11 +81,15 @@ pub enum Call<'a> {
     GateAll(GateAllCall<'a>),
     /// How a message is shown.
     Show(ShowCall<'a>),
-    /// Whether the certificate in the file of this path holds of the two sides.
+    /// Whether the certificate in the file of this path holds of the two sides; on request as JSON.
     Verify {
         files: BothFiles<'a>,
         certificate: &'a str,
+        json: bool,
     },
-    /// The full names of the message types of these files.
-    Types(Files<'a>),
+    /// The full names of the message types of these files; on request as JSON.
+    Types {
+        files: Files<'a>,
+        json: bool,
+    },
 }

@@ -1,8 +1,11 @@
+pub mod Folders
 pub mod Files
+pub mod Lists
 pub mod Answer
 pub mod ViewAnswer
 pub mod Steps
 pub mod Showing
+pub mod Notes
 pub mod AllTypes
 pub mod Verified
 pub mod Grants

@@ -1,3 +1,6 @@
+pub mod Causes
+pub mod Folders
+pub mod Lists
 pub mod Claims
 pub mod Cursor
 pub mod Faults

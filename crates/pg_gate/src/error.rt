@@ -3,7 +3,7 @@
 use crate::print::sink::SinkError;
 use pg_check::CheckError;
 use pg_fds::FdsError;
-use pg_link::LinkError;
+use pg_link::{LinkError, Place};
 use pg_show::HexError;
 use std::alloc::{AllocError, AllocFailed};
 use std::fmt;
@@ -14,6 +14,17 @@ use thiserror::Error;
 pub enum Side {
     Old,
     New,
+}
+
+/// Why a side has no files to compile.
+#[derive(Debug, PartialEq, Eq, Drop, Error)]
+pub enum ListError {
+    /// E906: the list that names a side's files isn't UTF-8, at this byte of it.
+    #[error("The list of files isn't UTF-8.")]
+    NotUtf8(Place),
+    /// E907: the list, as a whole, names no file; or a side has neither a file nor a list.
+    #[error("No file is named.")]
+    NoFile(Place),
 }
 
 /// Why a side does not compile.
@@ -30,6 +41,9 @@ pub enum Fault {
     /// of the codec of messages, of the set, or of the rule that it breaks.
     #[error("{0}")]
     Set(FdsError),
+    /// The side's list of files can't be used, or names none: by its own code and position.
+    #[error("{0}")]
+    List(ListError),
 }
 
 /// Why the gate gives no answer.
@@ -56,6 +70,21 @@ pub enum GateError {
     BadHex,
 }
 
+impl ListError {
+    ghost use Rattle.std.specs.Prelude.{◌≡◌};
+    ghost use Rattle.pg_gate.specs.print.Codes.{list_code};
+
+    /// The number after the E by which users know the error.
+    pub fn code(&self) -> u16
+        ensures { result ≡ list_code self.now }
+    {
+        match self {
+            ListError::NotUtf8(_) => 906,
+            ListError::NoFile(_) => 907,
+        }
+    }
+}
+
 impl Fault {
     ghost use Rattle.std.specs.Prelude.{◌≡◌};
     ghost use Rattle.pg_gate.specs.print.Codes.{fault_code};
@@ -68,6 +97,7 @@ impl Fault {
             Fault::Link(error) => error.code(),
             Fault::Check(error) => error.code(),
             Fault::Set(error) => error.code(),
+            Fault::List(error) => error.code(),
         }
     }
 }

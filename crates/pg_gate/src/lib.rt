@@ -11,7 +11,7 @@ mod program;
 mod relaying;
 
 pub use answer::gate::{Answer, gate, gate_files, gate_with};
-pub use error::{Fault, GateError, Side};
+pub use error::{Fault, GateError, ListError, Side};
 pub use pg_cert::Certificate;
 pub use pg_check::CheckError;
 pub use pg_dyn::{DynError, Message, ViewName};

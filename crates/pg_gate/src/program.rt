@@ -4,19 +4,17 @@ ghost use Rattle.clap.specs.Walk.{texts};
 ghost use Rattle.clap.specs.Words.{kind_of};
 ghost use Rattle.pg_call.specs.Call.{IsCall, IsRefused, request_of};
 ghost use Rattle.pg_gate.specs.answer.Grants.{Grants, seen};
-ghost use Rattle.pg_gate.specs.print.Printed.{root_of};
+ghost use Rattle.pg_gate.specs.print.Printed.{is_json, root_of};
 ghost use Rattle.pg_gate.specs.Run.{Begins, IsRunError, Keeps, MayLack, Prints, failures_in};
 
 use crate::answer::dispatch::answer;
 use crate::error::GateError;
+use crate::print::refusal::USAGE;
 use crate::print::sink::{Sink, write_all};
 use clap::error::ErrorKind;
 use pg_call::{Call, call_of, matches_of};
 use pg_link::Sources;
 use std::alloc::Global;
-
-/// The status of arguments that `clap` doesn't take, as of those that ask for help.
-const USAGE: u8 = 4;
 
 /// The name of the call's root types, where it has one.
 fn root<'a>(call: &Call<'a>) -> &'a str
@@ -28,7 +26,20 @@ fn root<'a>(call: &Call<'a>) -> &'a str
         | Call::GateAll(_)
         | Call::Show(_)
         | Call::Verify { .. }
-        | Call::Types(_) => "",
+        | Call::Types { .. } => "",
+    }
+}
+
+/// Whether the call asks for JSON.
+fn asks_for_json(call: &Call<'_>) -> bool
+    ensures { result ≡ is_json (request_of call.now) }
+{
+    match call {
+        Call::Compile(_) => false,
+        Call::Gate(asked) => asked.json,
+        Call::GateAll(asked) => asked.json,
+        Call::Show(asked) => asked.json,
+        Call::Verify { json, .. } | Call::Types { json, .. } => *json,
     }
 }
 
@@ -52,13 +63,13 @@ fn usage<W: Sink>(alloc: Global, error: &clap::Error, sink: &mut W) -> Result<u8
 }
 
 /// The whole program, on the arguments after its name: answers the call from its sources, writes
-/// the answer's output to the sink, and gives the exit status.
+/// the answer's output to the sink, in words or as JSON, and gives the exit status.
 ///
 /// 0: compatible, or a set is written, a message shown, or types named. 1: breaks, in either of two
 /// directions, or in one of all types. 2: refused, or one of all types is removed. 3: a source
-/// failed. 4: help, or a bad command line. 5: a certificate gives only a lower bound on the length
-/// of a message that breaks. The only errors are `Memory`, with the sink untouched, and
-/// `WriteFailed`, after which the sink took a beginning of the output.
+/// failed. 4: help, a bad command line, or a side names no file. 5: a certificate gives only a
+/// lower bound on the length of a message that breaks. The only errors are `Memory`, with the sink
+/// untouched, and `WriteFailed`, after which the sink took a beginning of the output.
 pub fn run<S: Sources, T: Sources, W: Sink>(
     alloc: Global,
     words: &[&str],
@@ -66,8 +77,12 @@ pub fn run<S: Sources, T: Sources, W: Sink>(
     new: &mut T,
     sink: &mut W,
 ) -> Result<u8, GateError>
-    // Only arguments that `clap` doesn't take end with the status of usage.
-    ensures usage { IfOk result (λ status. status ≡ USAGE → IsRefused (texts words.now)) }
+    // Only arguments that `clap` doesn't take end with the status of usage, which leave the sources
+    // as they were; and a call with a side that names no file, which is answered.
+    ensures usage { IfOk result (λ status. status ≡ USAGE
+        → (IsRefused (texts words.now) × (old.new ≡ old.old) × (new.new ≡ new.old))
+        ⊎ Prints (Grants (seen S.Sources old.old old.new) (seen T.Sources new.old new.new))
+        (texts words.now) status (W.taken sink.old) (W.taken sink.new)) }
 
     // Else the sink took exactly the output of the arguments' call and an answer granted to it.
     ensures printed { IfOk result (λ status. status ≢ USAGE → Prints
@@ -87,8 +102,6 @@ pub fn run<S: Sources, T: Sources, W: Sink>(
 
     // Arguments that are no call leave the sources as they were. Where memory runs out, no source
     // failed, or as an answer reports that is granted.
-    ensures unasked { IfOk result (λ status. status ≡ USAGE
-        → (old.new ≡ old.old) × (new.new ≡ new.old)) }
     ensures uncalled { ¬ (IsCall (texts words.now)) → (old.new ≡ old.old) × (new.new ≡ new.old) }
     ensures lacking { IsErrOf result GateError.Memory → MayLack
         (Grants (seen S.Sources old.old old.new) (seen T.Sources new.old new.new))
@@ -106,7 +119,8 @@ pub fn run<S: Sources, T: Sources, W: Sink>(
         Err(error) => return usage(alloc, &error, sink),
     };
     let call = call_of(&matches);
-    let output = answer(alloc, &call, old, new)?.into_output(alloc, root(&call))?;
+    let json = asks_for_json(&call);
+    let output = answer(alloc, &call, old, new)?.into_output(alloc, root(&call), json)?;
     write_all(sink, &output.text)?;
     Ok(output.status)
 }

@@ -37,8 +37,12 @@ pub fn run_usage<S: Sources, T: Sources, W: Sink>(
     new: &mut T,
     sink: &mut W,
 ) -> Result<u8, GateError>
-    // Only words that `clap` doesn't take end with it.
-    ensures usage { IfOk result (λ status. status ≡ 4 → IsRefused (texts said.now)) }
+    // Only words that `clap` doesn't take end with it, which leave the sources as they were; and a
+    // call with a side that names no file, which is answered.
+    ensures usage { IfOk result (λ status. status ≡ 4
+        → (IsRefused (texts said.now) × (old.new ≡ old.old) × (new.new ≡ new.old))
+        ⊎ Prints (Grants (seen S.Sources old.old old.new) (seen T.Sources new.old new.new))
+        (texts said.now) status (W.taken sink.old) (W.taken sink.new)) }
 {
     pg_gate::run(alloc, said, old, new, sink)
 }
@@ -52,8 +56,6 @@ pub fn run_unanswered<S: Sources, T: Sources, W: Sink>(
     sink: &mut W,
 ) -> Result<u8, GateError>
     // Words that are no call leave the sources as they were.
-    ensures unasked { IfOk result (λ status. status ≡ 4
-        → (old.new ≡ old.old) × (new.new ≡ new.old)) }
     ensures uncalled { ¬ (IsCall (texts given.now)) → (old.new ≡ old.old) × (new.new ≡ new.old) }
     // Where memory runs out, no source failed, or as an answer reports that is granted.
     ensures lacking { IsErrOf result GateError.Memory → MayLack

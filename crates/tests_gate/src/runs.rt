@@ -14,7 +14,7 @@ const UNSIGNED: &[u8] =
     b"\x0a\x24\x0a\x07m.proto\x22\x11\x0a\x01M\x12\x0c\x0a\x01a\x18\x01\x20\x01\x28\x0dR\x01ab\x06proto3";
 
 /// The files of either side.
-pub(crate) static FILES: [(&str, &[u8]); 21] = [
+pub(crate) static FILES: [(&str, &[u8]); 25] = [
     (
         "m.proto",
         b"syntax = \"proto3\";\nmessage M { int32 a = 1; }\n",
@@ -87,10 +87,15 @@ pub(crate) static FILES: [(&str, &[u8]); 21] = [
         "none",
         b"protogate-certificate 1\nroot M M\npair M M none\nwitness none\nend\n",
     ),
+    // Lists: of two files, of one, of none, and one that isn't UTF-8.
+    ("two.list", b"m.proto\r\n\nk.proto\n"),
+    ("one.list", b"l.proto"),
+    ("no.list", b"\n\r\n"),
+    ("bad.list", b"m.proto\n\xff\n"),
 ];
 
 /// Words, what is printed, and the status.
-pub(crate) static CALLS: [(&[&str], &str, u8); 19] = [
+pub(crate) static CALLS: [(&[&str], &str, u8); 27] = [
     (
         &["compile", "m.proto"],
         "\x0a\x24\x0a\x07m.proto\x22\x11\x0a\x01M\x12\x0c\x0a\x01a\x18\x01\x20\x01\x28\x05R\x01ab\x06proto3",
@@ -213,6 +218,19 @@ pub(crate) static CALLS: [(&[&str], &str, u8); 19] = [
         "cause value 11 08ffffffffffffffffff01 1 M.a m.proto:2:19 M.a u.proto:2:20\nold\n1 a int -1\nagain 08ffffffffffffffffff01\nnew\n1 a int 4294967295\nagain 08ffffffff0f\ncause oneof 4 08011001 1 K.a k.proto:2:19 K.a l.proto:2:29 K.b k.proto:2:32 K.b l.proto:2:42\nold\n1 a int 1\n2 b int 1\nagain 08011001\nnew\n2 b int 1\nagain 1001\nbreaks M 11\nbreaks K 4\n",
         1,
     ),
+    // The same as JSON, without the readings.
+    (
+        &[
+            "gate-all",
+            "--json",
+            "--old=m.proto",
+            "--old=k.proto",
+            "--new=u.proto",
+            "--new=l.proto",
+        ],
+        "{\"kind\":\"cause\",\"why\":\"value\",\"length\":11,\"message\":\"08ffffffffffffffffff01\",\"number\":1,\"old\":{\"name\":\"M.a\",\"file\":\"m.proto\",\"line\":2,\"column\":19},\"new\":{\"name\":\"M.a\",\"file\":\"u.proto\",\"line\":2,\"column\":20},\"others\":[]}\n{\"kind\":\"cause\",\"why\":\"oneof\",\"length\":4,\"message\":\"08011001\",\"number\":1,\"old\":{\"name\":\"K.a\",\"file\":\"k.proto\",\"line\":2,\"column\":19},\"new\":{\"name\":\"K.a\",\"file\":\"l.proto\",\"line\":2,\"column\":29},\"others\":[{\"number\":2,\"old\":{\"name\":\"K.b\",\"file\":\"k.proto\",\"line\":2,\"column\":32},\"new\":{\"name\":\"K.b\",\"file\":\"l.proto\",\"line\":2,\"column\":42}}]}\n{\"kind\":\"breaks\",\"type\":\"M\",\"length\":11}\n{\"kind\":\"breaks\",\"type\":\"K\",\"length\":4}\n",
+        1,
+    ),
     // A type that breaks, one that doesn't, one that is removed, and one that is added.
     (
         &[
@@ -232,6 +250,38 @@ pub(crate) static CALLS: [(&[&str], &str, u8); 19] = [
         "error: unrecognized subcommand 'relay'\n\nUsage: protogate <COMMAND>\n\nFor more information, try '--help'.\n",
         4,
     ),
+    // Two files of an included folder, as protoc writes them.
+    (
+        &["compile", "--dir=n", "--include=d", "a.proto"],
+        "\x0a\x16\x0a\x07b.proto\x22\x03\x0a\x01Nb\x06proto3\x0a\x31\x0a\x07a.proto\x1a\x07b.proto\x22\x15\x0a\x01M\x12\x10\x0a\x01n\x18\x01\x20\x01\x28\x0b2\x02.NR\x01nb\x06proto3",
+        0,
+    ),
+    // A set of an included folder.
+    (&["types", "--dir=n", "--include=.", "o.pb"], "M\n", 0),
+    // The files of a list, and the first of them as a word too.
+    (&["types", "--files-from=two.list", "m.proto"], "M\nK\n", 0),
+    // All types of an old list, and of a word and a list.
+    (
+        &[
+            "gate-all",
+            "--old-files-from=two.list",
+            "--new=u.proto",
+            "--new-files-from=one.list",
+        ],
+        "cause value 11 08ffffffffffffffffff01 1 M.a m.proto:2:19 M.a u.proto:2:20\ncause oneof 4 08011001 1 K.a k.proto:2:19 K.a l.proto:2:29 K.b k.proto:2:32 K.b l.proto:2:42\nbreaks M 11\nbreaks K 4\n",
+        1,
+    ),
+    (
+        &["compile", "--files-from=bad.list"],
+        "refused E906 bad.list:2:1\n",
+        2,
+    ),
+    (
+        &["gate-all", "--old=m.proto", "--new-files-from=no.list"],
+        "refused new E907 no.list\n",
+        4,
+    ),
+    (&["gate-all", "--new=m.proto"], "refused old E907\n", 4),
 ];
 
 /// How a run ended.

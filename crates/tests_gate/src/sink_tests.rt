@@ -89,6 +89,20 @@ fn compiles_again(rt: HostRuntime) -> Result<(), Fail> {
 }
 
 #[test]
+fn compiles_in_folders_again(rt: HostRuntime) -> Result<(), Fail> {
+    let (words, printed, status) = CALLS[20];
+    assert!(rt; runs_again(&rt, words, printed, status)?);
+    Ok(())
+}
+
+#[test]
+fn names_types_of_a_set_in_folders_again(rt: HostRuntime) -> Result<(), Fail> {
+    let (words, printed, status) = CALLS[21];
+    assert!(rt; runs_again(&rt, words, printed, status)?);
+    Ok(())
+}
+
+#[test]
 fn shows_again(rt: HostRuntime) -> Result<(), Fail> {
     let (words, printed, status) = CALLS[2];
     assert!(rt; runs_again(&rt, words, printed, status)?);
@@ -119,6 +133,41 @@ fn gates_a_oneof_again(rt: HostRuntime) -> Result<(), Fail> {
 #[test]
 fn gates_all_types_again(rt: HostRuntime) -> Result<(), Fail> {
     let (words, printed, status) = CALLS[16];
+    assert!(rt; runs_again(&rt, words, printed, status)?);
+    Ok(())
+}
+
+#[test]
+fn names_types_of_a_list_again(rt: HostRuntime) -> Result<(), Fail> {
+    let (words, printed, status) = CALLS[22];
+    assert!(rt; runs_again(&rt, words, printed, status)?);
+    Ok(())
+}
+
+#[test]
+fn gates_all_types_of_lists_again(rt: HostRuntime) -> Result<(), Fail> {
+    let (words, printed, status) = CALLS[23];
+    assert!(rt; runs_again(&rt, words, printed, status)?);
+    Ok(())
+}
+
+#[test]
+fn refuses_a_list_again(rt: HostRuntime) -> Result<(), Fail> {
+    let (words, printed, status) = CALLS[24];
+    assert!(rt; runs_again(&rt, words, printed, status)?);
+    Ok(())
+}
+
+#[test]
+fn refuses_a_list_without_files_again(rt: HostRuntime) -> Result<(), Fail> {
+    let (words, printed, status) = CALLS[25];
+    assert!(rt; runs_again(&rt, words, printed, status)?);
+    Ok(())
+}
+
+#[test]
+fn refuses_a_side_without_files_again(rt: HostRuntime) -> Result<(), Fail> {
+    let (words, printed, status) = CALLS[26];
     assert!(rt; runs_again(&rt, words, printed, status)?);
     Ok(())
 }

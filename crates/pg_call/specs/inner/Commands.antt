@@ -10,8 +10,9 @@ use Rattle.pg_call.specs.declared.commands.Subcommand.{Subcommand}
 -- an argument, with the names of the views that this reference leads to
 abbrev pub rule_for : Bor (List (Bor Text)) → Description → Rule
 rule_for names (descriptions.Folder name help) = command_line.folder name.now
+rule_for names (descriptions.Optional name value help) = command_line.optional name.now
+rule_for names (descriptions.Each name value help) = command_line.each name.now
 rule_for names (descriptions.Named name value help) = command_line.named name.now
-rule_for names (descriptions.NamedEach name value help) = command_line.named_each name.now
 rule_for names (descriptions.Positional name help) = command_line.positional name.now
 rule_for names (descriptions.Positionals name help) = command_line.positionals name.now
 rule_for names (descriptions.Flag name help) = command_line.flag name.now

@@ -7,3 +7,5 @@ pub mod Roots
 pub mod ShowLemmas
 pub mod SourceLemmas
 pub mod VerifyLemmas
+pub mod FolderLemmas
+pub mod ListLemmas

@@ -35,6 +35,7 @@ abbrev pub IsFault : (LinkError → Type 0) → (CheckError → Type 0) → (Fds
 IsFault link rule set (faults.Link error) = link error
 IsFault link rule set (faults.Check error) = rule error
 IsFault link rule set (faults.Set error) = set error
+IsFault link rule set (faults.List error) = ⊥
 
 -- ---- source files
 

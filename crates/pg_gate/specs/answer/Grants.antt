@@ -1,5 +1,5 @@
 -- What a call may be answered, by what its sources may give and lack.
-use Rattle.std.specs.Prelude.{◌≡◌, ◌+◌, ◌&&◌, ℕ, Bool, true, false, not, List, Option, Some, is_some, option_map, string_bytes, IsTrue}
+use Rattle.std.specs.Prelude.{◌≡◌, ◌⊎◌, ◌+◌, ◌&&◌, ℕ, Bool, true, false, not, List, [], Option, Some, is_some, option_map, string_bytes, IsTrue}
 use Rattle.pg_cert.specs.Certificate.{Claim}
 use Rattle.pg_cert.specs.Text.{Certifies, IsSecondText}
 use Rattle.pg_dyn.specs.declared.view_name.ViewName.{ViewName}
@@ -18,7 +18,9 @@ use Rattle.pg_link.specs.walk.Walk.{World, world}
 use Rattle.pg_link.specs.declared.sources.Sources.{Ghosts}
 use Rattle.pg_gate.specs.Errors.{IsCallError, IsError}
 use Rattle.pg_gate.specs.Failures.{call_failures_at}
-use Rattle.pg_call.specs.Paths.{Paths}
+use Rattle.pg_call.specs.Paths.{BothPaths, Paths}
+use Rattle.pg_gate.specs.answer.Lists.{IsFaultOfNames, IsListed}
+use Rattle.pg_gate.specs.answer.Folders.{world_at}
 use Rattle.pg_gate.specs.answer.Files.{IsErrorOf, IsFaultOfSet, IsFaultOfSide, IsSetOf, IsSide, IsSideError}
 use Rattle.pg_gate.specs.answer.Answer.{IsAnswer, IsBroken, IsCompatible, certificate_of}
 use Rattle.pg_gate.specs.declared.answer.gate.Answer.{Answer}
@@ -133,6 +135,19 @@ IsGateReply old new asked (replies.Both forward backward) =
     × IsFindingOf asked.view new old asked.root false asked.explain backward
 IsGateReply old new asked reply = ⊥
 
+-- ---- lists of files
+
+-- what holds of all files of a side, with those of its list
+pub record Listed (give : Text → Text → Bool) (lack : Text → Bool) (files : Paths) (holds : World → Type 0) : Type 0 where
+  pub all : Paths
+  pub is_listed : IsListed give files all
+  pub so : holds (world_at give lack all)
+
+-- a side has no files, or there is a fault of all its files
+abbrev pub IsListedFault : (Text → Text → Bool) → (Text → Bool) → Paths → (World → Fault → Type 0) → Fault → Type 0
+IsListedFault give lack files faulty fault =
+    IsFaultOfNames give lack files fault ⊎ Listed give lack files (λ w. faulty w fault)
+
 -- ---- certificates that are checked
 
 -- bytes that the source may give for the path
@@ -141,9 +156,14 @@ pub record IsGiven (w : World) (path : Text) (holds : Text → Type 0) : Type 0 
   pub given : IsTrue (w.may_give path bytes)
   pub so : holds bytes
 
--- what is found of a certificate, whose bytes the old source may give for its path as it is given
-abbrev pub IsVerified : Text → World → World → Finding → Type 0
-IsVerified path old new finding = Between old new (λ a b. IsGiven old path (λ bytes. IsHeldBy a b bytes finding))
+-- a source that is asked for paths as they are given
+abbrev pub as_given : (Text → Text → Bool) → (Text → Bool) → World
+as_given give lack = world give lack [] []
+
+-- what is found of a certificate, whose bytes that source may give for its path
+abbrev pub IsVerified : Text → (source old new : World) → Finding → Type 0
+IsVerified path source old new finding =
+    Between old new (λ a b. IsGiven source path (λ bytes. IsHeldBy a b bytes finding))
 
 -- why a certificate isn't taken: the source may lack its path, it failed, or it may give bytes that are refused
 abbrev pub IsCertificateFault : World → Text → Parts → Parts → CertificateFault → Type 0
@@ -153,15 +173,9 @@ IsCertificateFault w path old new (certificates.Refused fault) =
     IsGiven w path (λ bytes. IsClaimFault old new bytes fault)
 
 -- why a certificate of two sides shows nothing; its own faults are reported of sides that both compile
-abbrev pub IsVerifyError : Text → World → World → CallError → Type 0
-IsVerifyError path old new = IsCallError (IsSidesError old new)
-    (λ fault. Between old new (λ a b. IsCertificateFault old path a b fault)) (λ error. ⊥)
-
--- ---- sets that are written
-
--- why no set is written; its files are compiled as an old side
-abbrev pub IsSetError : World → GateError → Type 0
-IsSetError w = IsErrorOf (IsFaultOfSet w) sides.Old
+abbrev pub IsVerifyError : Text → (source old new : World) → CallError → Type 0
+IsVerifyError path source old new = IsCallError (IsSidesError old new)
+    (λ fault. Between old new (λ a b. IsCertificateFault source path a b fault)) (λ error. ⊥)
 
 -- ---- bytes that are shown
 
@@ -193,23 +207,43 @@ seen members old new = record {
 
 -- files of a source, by what a run knows of it
 abbrev pub world_in : Seen → Paths → World
-world_in s paths = world s.may_give s.may_lack paths.folder paths.files
+world_in s paths = world_at s.may_give s.may_lack paths
+
+-- what holds of all files of a side, by what a run knows of its source
+abbrev pub AllOf : Seen → Paths → (World → Type 0) → Type 0
+AllOf s files holds = Listed s.may_give s.may_lack files holds
 
 -- what is answered to a call, where nothing is refused: each call has replies of its own
 abbrev pub IsReplyFor : Seen → Seen → Request → Reply → Type 0
-IsReplyFor old new (compile files) (replies.Set bytes) = IsSetOf (world_in old files) bytes.items
+IsReplyFor old new (compile files) (replies.Set bytes) = AllOf old files (λ w. IsSetOf w bytes.items)
 IsReplyFor old new (gate asked) reply =
     Between (world_in old asked.files.old) (world_in new asked.files.new) (λ a b. IsGateReply a b asked reply)
 IsReplyFor old new (gate_all asked) (replies.All all) =
-    Between (world_in old asked.files.old) (world_in new asked.files.new)
-    (λ a b. IsAllTypes asked.view a b asked.explain all)
+    AllOf old asked.files.old (λ v. AllOf new asked.files.new (λ w.
+    Between v w (λ a b. IsAllTypes asked.view a b asked.explain asked.notes all)))
 IsReplyFor old new (show asked) (replies.Shown text) =
     OfSide (world_in old asked.files) (λ schema. IsShown schema asked.root asked.word (string_bytes text))
-IsReplyFor old new (verify files certificate) (replies.Found finding) =
-    IsVerified certificate (world_in old files.old) (world_in new files.new) finding
-IsReplyFor old new (types files) (replies.Shown text) =
-    OfSide (world_in old files) (λ schema. ListsTypes schema (string_bytes text))
+IsReplyFor old new (verify files certificate json) (replies.Found finding) =
+    IsVerified certificate (as_given old.may_give old.may_lack) (world_in old files.old) (world_in new files.new)
+    finding
+IsReplyFor old new (types files json) (replies.Types names) =
+    AllOf old files (λ w. OfSide w (λ schema. ListsTypes schema names.items))
 IsReplyFor old new call reply = ⊥
+
+-- why files that are compiled by themselves aren't, as an old side
+abbrev pub IsErrorOfAll : Seen → Paths → (World → Fault → Type 0) → GateError → Type 0
+IsErrorOfAll s files faulty = IsErrorOf (IsListedFault s.may_give s.may_lack files faulty) sides.Old
+
+-- Why a side names no files. The list of the old side is read first, and both before anything is compiled.
+abbrev pub IsNamesFault : Seen → Seen → BothPaths → Side → Fault → Type 0
+IsNamesFault old new files sides.Old fault = IsFaultOfNames old.may_give old.may_lack files.old fault
+IsNamesFault old new files sides.New fault =
+    AllOf old files.old (λ w. IsFaultOfNames new.may_give new.may_lack files.new fault)
+
+-- why nothing is found of all message types
+abbrev pub IsAllError : Seen → Seen → BothPaths → GateError → Type 0
+IsAllError old new files = IsError ⊥ ⊥ ⊥ (λ side fault. IsNamesFault old new files side fault
+    ⊎ AllOf old files.old (λ v. AllOf new files.new (λ w. IsSidesFault v w side fault)))
 
 -- an error that no call but `verify` and `show` ends in
 abbrev pub OfGate : (GateError → Type 0) → CallError → Type 0
@@ -217,15 +251,14 @@ OfGate is = IsCallError is (λ fault. ⊥) (λ error. ⊥)
 
 -- why nothing is answered to a call
 abbrev pub IsErrorFor : Seen → Seen → Request → CallError → Type 0
-IsErrorFor old new (compile files) = OfGate (IsSetError (world_in old files))
+IsErrorFor old new (compile files) = OfGate (IsErrorOfAll old files IsFaultOfSet)
 IsErrorFor old new (gate asked) =
     OfGate (IsGateError asked.root (world_in old asked.files.old) (world_in new asked.files.new))
-IsErrorFor old new (gate_all asked) =
-    OfGate (IsSidesError (world_in old asked.files.old) (world_in new asked.files.new))
+IsErrorFor old new (gate_all asked) = OfGate (IsAllError old new asked.files)
 IsErrorFor old new (show asked) = IsShowError (world_in old asked.files) asked.root asked.word
-IsErrorFor old new (verify files certificate) =
-    IsVerifyError certificate (world_in old files.old) (world_in new files.new)
-IsErrorFor old new (types files) = OfGate (IsSideError (world_in old files) sides.Old)
+IsErrorFor old new (verify files certificate json) =
+    IsVerifyError certificate (as_given old.may_give old.may_lack) (world_in old files.old) (world_in new files.new)
+IsErrorFor old new (types files json) = OfGate (IsErrorOfAll old files IsFaultOfSide)
 
 -- each source's count of failures rose by just so much
 pub record Counted (old new : Seen) (failures : Side → ℕ) : Type 0 where

@@ -1,9 +1,9 @@
 -- What checking functions inside the crate say of a certificate's bytes.
-use Rattle.std.specs.Prelude.{◌≡◌, ◌⊎◌, [], Bool, IsTrue, string_bytes}
+use Rattle.std.specs.Prelude.{◌≡◌, ◌⊎◌, Bool, IsTrue, string_bytes}
 use Rattle.pg_cert.specs.declared.error.CertError.{CertError}
 use Rattle.pg_cert.specs.declared.error.CertError.TheVariants as checks
 use Rattle.pg_link.specs.names.Names.{Text}
-use Rattle.pg_link.specs.walk.Walk.{World, world}
+use Rattle.pg_link.specs.walk.Walk.{World}
 use Rattle.pg_schema.specs.declared.parts.Parts.{Parts}
 use Rattle.pg_gate.specs.Errors.{IsCallError, IsMemory}
 use Rattle.pg_gate.specs.answer.Grants.{IsCertificateFault, IsGiven}
@@ -33,10 +33,6 @@ IsUngivenFault lack path fault = ⊥
 
 abbrev pub IsUngiven : (Text → Bool) → Text → CallError → Type 0
 IsUngiven lack path = IsCallError IsMemory (IsUngivenFault lack path) (λ error. ⊥)
-
--- a source that is asked by paths as they are given
-abbrev pub as_given : (Text → Text → Bool) → (Text → Bool) → World
-as_given give lack = world give lack [] []
 
 -- what is found of a certificate, whose bytes the source may give for the path
 abbrev pub IsFound : World → Text → Parts → Parts → Finding → Type 0

@@ -1,5 +1,5 @@
 -- What functions inside the crate say of faults, which no promise of a call names.
-use Rattle.std.specs.Prelude.{Bool, List}
+use Rattle.std.specs.Prelude.{List}
 use Rattle.pg_link.specs.names.Names.{Text}
 use Rattle.pg_link.specs.walk.Walk.{Entry, World}
 use Rattle.pg_gate.specs.answer.Files.{IsFault, IsLinkFault, IsNoSet, IsNotGiven, IsRuleFault}
@@ -14,8 +14,8 @@ abbrev pub IsOfRules : List Entry → Fault → Type 0
 IsOfRules files = IsFault (λ error. ⊥) (IsRuleFault files) (λ error. ⊥)
 
 -- a file that isn't given
-abbrev pub IsGivenFault : (Text → Bool) → (folder path : Text) → Fault → Type 0
-IsGivenFault lack folder path = IsFault (IsNotGiven lack folder path) (λ error. ⊥) (λ error. ⊥)
+abbrev pub IsGivenFault : World → (path : Text) → Fault → Type 0
+IsGivenFault w path = IsFault (IsNotGiven w.may_lack w.folder path) (λ error. ⊥) (λ error. ⊥)
 
 -- bytes that are refused
 abbrev pub IsFaultOfBytes : Text → Fault → Type 0

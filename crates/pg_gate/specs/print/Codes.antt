@@ -13,13 +13,20 @@ use Rattle.pg_gate.specs.declared.call_error.CertificateFault.{CertificateFault}
 use Rattle.pg_gate.specs.declared.call_error.CertificateFault.TheVariants as certificates
 use Rattle.pg_gate.specs.declared.error.Fault.{Fault}
 use Rattle.pg_gate.specs.declared.error.Fault.TheVariants as faults
+use Rattle.pg_gate.specs.declared.error.ListError.{ListError}
+use Rattle.pg_gate.specs.declared.error.ListError.TheVariants as lists
 use Rattle.pg_gate.specs.declared.error.GateError.{GateError}
 use Rattle.pg_gate.specs.declared.error.GateError.TheVariants as gates
+
+abbrev pub list_code : ListError → ℕ
+list_code (lists.NotUtf8 place) = 906
+list_code (lists.NoFile place) = 907
 
 abbrev pub fault_code : Fault → ℕ
 fault_code (faults.Link error) = link_code error
 fault_code (faults.Check error) = rule_code error
 fault_code (faults.Set error) = set_code error
+fault_code (faults.List error) = list_code error
 
 -- the code that says what is wrong with a side that doesn't compile
 abbrev pub code_of : GateError → ℕ

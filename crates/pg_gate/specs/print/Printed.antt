@@ -1,11 +1,13 @@
 -- What a call's answer prints, and its status.
-use Rattle.std.specs.Prelude.{ℕ, ◌==◌, ◌||◌, [], if◌then◌else◌, length, string_bytes}
+use Rattle.std.specs.Prelude.{ℕ, Bool, true, false, ◌==◌, ◌||◌, [], if◌then◌else◌, length}
+use Rattle.std.specs.List.{flat_map}
 use Rattle.pg_link.specs.names.Names.{Text}
 use Rattle.pg_cert.specs.declared.verdict.Verdict.{Verdict}
 use Rattle.pg_cert.specs.declared.verdict.Verdict.TheVariants as verdicts
-use Rattle.pg_call.specs.Call.{Request, gate}
-use Rattle.pg_gate.specs.print.AllText.{all_of}
-use Rattle.pg_gate.specs.print.Text.{both_of, finding_of, refusal_of}
+use Rattle.pg_call.specs.Call.{Request, compile, gate, gate_all, show, types, verify}
+use Rattle.pg_gate.specs.print.Json.{json_of}
+use Rattle.pg_gate.specs.print.Line.{words_of}
+use Rattle.pg_gate.specs.print.Lines.{lines_of}
 use Rattle.pg_gate.specs.declared.answer.all_types.AllTypes.{AllTypes}
 use Rattle.pg_gate.specs.declared.print.refusal.Refusal.{Refusal}
 use Rattle.pg_gate.specs.declared.print.reply.Finding.{Finding}
@@ -28,9 +30,9 @@ finding_status (finding.Breaks witness steps readings) = 1
 finding_status (finding.Certified text breaks) = if breaks then 1 else 0
 finding_status (finding.Verified verified) = verdict_status verified.verdict
 
--- 3 for a source that failed, and else 2
+-- 3 for a source that failed, 4 for a side that names no file, and else 2
 abbrev pub refusal_status : Refusal → ℕ
-refusal_status refusal = if refusal.code == 309 then 3 else 2
+refusal_status refusal = if refusal.code == 309 then 3 else if refusal.code == 907 then 4 else 2
 
 -- 1 where either direction breaks
 abbrev pub either_status : ℕ → ℕ → ℕ
@@ -48,17 +50,33 @@ status_of (reply.Shown text) = 0
 status_of (reply.Found f) = finding_status f
 status_of (reply.Both forward backward) = either_status (finding_status forward) (finding_status backward)
 status_of (reply.All all) = all_status all
+status_of (reply.Types names) = 0
 status_of (reply.Refused r) = refusal_status r
 
 -- ---- outputs
 
-abbrev pub text_of : Text → Reply → Text
-text_of root (reply.Set bytes) = bytes.items
-text_of root (reply.Shown text) = string_bytes text
-text_of root (reply.Found f) = finding_of root f
-text_of root (reply.Both forward backward) = both_of root forward backward
-text_of root (reply.All all) = all_of all
-text_of root (reply.Refused r) = refusal_of r
+-- the bytes of a set, or the lines in words
+abbrev pub words_text : Text → Reply → Text
+words_text root (reply.Set bytes) = bytes.items
+words_text root answer = flat_map words_of (lines_of root answer)
+
+-- the bytes of a set, or the lines as JSON
+abbrev pub json_text : Text → Reply → Text
+json_text root (reply.Set bytes) = bytes.items
+json_text root answer = flat_map json_of (lines_of root answer)
+
+abbrev pub text_of : (json : Bool) → Text → Reply → Text
+text_of true root answer = json_text root answer
+text_of false root answer = words_text root answer
+
+-- whether a call asks for JSON; a set has no lines
+abbrev pub is_json : Request → Bool
+is_json (compile files) = false
+is_json (gate asked) = asked.json
+is_json (gate_all asked) = asked.json
+is_json (show asked) = asked.json
+is_json (verify files certificate json) = json
+is_json (types files json) = json
 
 -- the name of the root types; a certificate has its own, and what other calls print has none
 abbrev pub root_of : Request → Text
@@ -70,4 +88,4 @@ pub record Printed : Type 0 where
   pub status : ℕ
 
 abbrev pub printed : Request → Reply → Printed
-printed call reply = record { text = text_of (root_of call) reply; status = status_of reply }
+printed call reply = record { text = text_of (is_json call) (root_of call) reply; status = status_of reply }

@@ -14,6 +14,8 @@ use Rattle.pg_gate.specs.declared.call_error.CertificateFault.{CertificateFault}
 use Rattle.pg_gate.specs.declared.call_error.CertificateFault.TheVariants as certificates
 use Rattle.pg_gate.specs.declared.error.Fault.{Fault}
 use Rattle.pg_gate.specs.declared.error.Fault.TheVariants as faults
+use Rattle.pg_gate.specs.declared.error.ListError.{ListError}
+use Rattle.pg_gate.specs.declared.error.ListError.TheVariants as lists
 use Rattle.pg_gate.specs.declared.error.GateError.{GateError}
 use Rattle.pg_gate.specs.declared.error.GateError.TheVariants.{Memory, RootMissingOld, RootMissingNew, Compile, WriteFailed, BadHex}
 use Rattle.pg_gate.specs.declared.error.Side.{Side}
@@ -41,11 +43,16 @@ abbrev pub location_of : Option ℕ → Location
 location_of (Some at) = AtByte at
 location_of None = Nowhere
 
+abbrev pub location_of_list : ListError → Location
+location_of_list (lists.NotUtf8 place) = located place
+location_of_list (lists.NoFile place) = located place
+
 -- where a side is at fault
 abbrev pub location_of_fault : Fault → Location
 location_of_fault (faults.Link error) = location_at (link_place error)
 location_of_fault (faults.Check error) = location_at (rule_place error)
 location_of_fault (faults.Set error) = location_of (set_place error)
+location_of_fault (faults.List error) = location_of_list error
 
 -- a certificate that isn't given is reported by its file
 abbrev pub location_of_certificate : CertificateFault → Location
@@ -88,5 +95,5 @@ without_side refusal = refusal_by None refusal.code refusal.location
 abbrev pub refusal_for : Request → CallError → Option Refusal
 refusal_for (compile files) error = option_map without_side (refusal_of error)
 refusal_for (show asked) error = option_map without_side (refusal_of error)
-refusal_for (types files) error = option_map without_side (refusal_of error)
+refusal_for (types files json) error = option_map without_side (refusal_of error)
 refusal_for call error = refusal_of error

@@ -1,23 +1,17 @@
--- The lines of an answer.
+-- The words of bytes, positions and refusals.
 use Rattle.std.specs.Prelude.{◌≡◌, ℕ, List, [], ◌∷◌, ◌++◌, ◌/◌, ◌%◌, Option, Some, None, false, codes, decimal}
-use Rattle.std.specs.Prelude.{length, string_bytes}
+use Rattle.std.specs.Prelude.{String, map, string_bytes}
+use Rattle.std.specs.Global.{Global}
 use Rattle.std.specs.Fmt.{digits}
 use Rattle.std.specs.List.{flat_map}
 use Rattle.pg_link.specs.names.Names.{Text}
-use Rattle.pg_cert.specs.declared.verdict.Verdict.{Verdict}
-use Rattle.pg_cert.specs.declared.verdict.Verdict.TheVariants as verdicts
 use Rattle.pg_link.specs.declared.error.Place.{Place}
 use Rattle.pg_gate.specs.declared.error.Side.{Side}
 use Rattle.pg_gate.specs.declared.error.Side.TheVariants as side
 use Rattle.pg_gate.specs.declared.print.location.Location.{Location}
 use Rattle.pg_gate.specs.declared.print.location.Location.TheVariants as location
 use Rattle.pg_gate.specs.declared.print.refusal.Refusal.{Refusal}
-use Rattle.pg_gate.specs.declared.print.reply.Finding.{Finding}
-use Rattle.pg_gate.specs.declared.print.reply.Finding.TheVariants as finding
-use Rattle.pg_gate.specs.declared.print.reply.Readings.{Readings}
 use Rattle.pg_gate.specs.declared.answer.step.NamedField.{NamedField}
-use Rattle.pg_gate.specs.declared.answer.step.Step.{Step}
-use Rattle.pg_gate.specs.declared.answer.verified.Verified.{Verified}
 use Rattle.pg_schema.specs.declared.parts.message_type.MessageType.{MessageType}
 use Rattle.pg_schema.specs.declared.parts.Parts.{Parts}
 
@@ -54,46 +48,6 @@ place_or_dash None = codes "-"
 abbrev pub field_of : NamedField → Text
 field_of field = string_bytes field.name ++ (codes " " ++ place_or_dash field.place)
 
--- `step NUMBER OLDFIELD OLDPOSITION NEWFIELD NEWPOSITION`
-abbrev pub step_of : Step → Text
-step_of step = codes "step " ++ (decimal step.number ++ (codes " " ++ (field_of step.old
-    ++ (codes " " ++ (field_of step.new ++ line_end)))))
-
-abbrev pub steps_of : List Step → Text
-steps_of steps = flat_map step_of steps
-
--- ---- what is found
-
--- `compatible NAME`, `breaks NAME LENGTH`, or `bound NAME LENGTH`
-abbrev pub shown_of : Text → ℕ → Verdict → Text
-shown_of name witness verdicts.Compatible = codes "compatible " ++ (name ++ line_end)
-shown_of name witness verdicts.Breaks = codes "breaks " ++ (name ++ (codes " " ++ (decimal witness ++ line_end)))
-shown_of name witness (verdicts.AtLeast n) = codes "bound " ++ (name ++ (codes " " ++ (decimal n ++ line_end)))
-
-abbrev pub verified_of : Verified → Text
-verified_of verified = shown_of (string_bytes verified.name) verified.length verified.verdict
-
--- `old` and the lines of the reading by the old type, and then `new` and those by the new one
-abbrev pub readings_of : Option Readings → Text
-readings_of (Some readings) = (codes "old" ++ line_end) ++ (string_bytes readings.old
-    ++ ((codes "new" ++ line_end) ++ string_bytes readings.new))
-readings_of None = []
-
--- `compatible NAME`; `breaks NAME LENGTH`, `witness HEX`, the steps, and the two readings where they are asked for; a
--- certificate alone; or what a certificate shows
-abbrev pub finding_of : Text → Finding → Text
-finding_of root finding.Compatible = codes "compatible " ++ (root ++ line_end)
-finding_of root (finding.Breaks witness steps readings) =
-    codes "breaks " ++ (root ++ (codes " " ++ (decimal (length witness.items) ++ (line_end
-    ++ (codes "witness " ++ (hex_of witness.items ++ (line_end ++ (steps_of steps.items ++ readings_of readings))))))))
-finding_of root (finding.Certified text breaks) = string_bytes text
-finding_of root (finding.Verified verified) = verified_of verified
-
--- `forward` and what is found, `backward` and what is found with the sides exchanged
-abbrev pub both_of : Text → Finding → Finding → Text
-both_of root forward backward = (codes "forward" ++ line_end)
-    ++ (finding_of root forward ++ ((codes "backward" ++ line_end) ++ finding_of root backward))
-
 -- ---- refusals
 
 abbrev pub side_of : Side → Text
@@ -126,10 +80,7 @@ refusal_of refusal = codes "refused " ++ (side_before refusal.side ++ (codes "E"
 
 -- ---- names of types
 
--- the full name of a message type, on a line of its own
-abbrev pub name_line : MessageType → Text
-name_line type = string_bytes type.name ++ line_end
-
--- the output is the names of all message types that the schema declares, in order of declaration, and nothing else
-abbrev pub ListsTypes : Parts → Text → Type 0
-ListsTypes schema text = text ≡ flat_map name_line schema.types.items
+-- the names of all message types that the schema declares, in order of declaration, and nothing else
+abbrev pub ListsTypes : Parts → List (String Global) → Type 0
+ListsTypes schema names =
+    map string_bytes names ≡ map (λ (type : MessageType). string_bytes type.name) schema.types.items

@@ -1,55 +1,57 @@
 //! The causes of two sides that compiled, with their fields, positions and readings.
-ghost use Rattle.std.specs.Prelude.{◌≡◌, ◌∷◌, IfOk, map, option_to_list};
+ghost use Rattle.std.specs.Prelude.{◌≡◌, ◌≤◌, IfOk, length, map};
 ghost use Rattle.std.specs.List.{AllByRecursion};
-ghost use Rattle.pg_causes.specs.declared.overview.Cause.{Cause};
 ghost use Rattle.pg_cert.specs.Text.{IsPairOf};
 ghost use Rattle.pg_gate.specs.answer.AllTypes.{IsAllTypes, IsPlaced, without_place};
-ghost use Rattle.pg_gate.specs.answer.Steps.{named, named_at, steps_by};
+ghost use Rattle.pg_gate.specs.answer.Steps.{named, named_at};
+ghost use Rattle.pg_gate.specs.inner.Causes.{HasFields};
 
 use crate::answer::all_types::{AllTypes, PlacedCause};
+use crate::answer::both_sides::BothSides;
 use crate::answer::compile::Compiled;
 use crate::answer::explaining::{Broken, explained};
+use crate::answer::noting::noted;
 use crate::answer::step::Step;
 use crate::answer::stepping::{PlacedSchemas, placed_schemas, step_of};
+use pg_call::GateAllCall;
 use pg_causes::{Cause, Overview, gate_all};
-use pg_dyn::ViewName;
 use pg_least::PairChoice;
-use pg_pairs::Case;
+use pg_pairs::Pair;
 use std::alloc::{AllocError, Global};
 
-/// The field of the larger number, where two fields meet in a oneof.
-fn other_of(
+/// The fields of those numbers.
+fn steps_at(
     alloc: Global,
     sides: &PlacedSchemas<'_>,
-    stage: PairChoice,
-) -> Result<Option<Step>, AllocError>
-    ensures { IfOk result (λ other.
-        named_at sides.now.old.schema.now sides.now.new.schema.now stage.pair stage.choice.number
-        ∷ map named (option_to_list other)
-        ≡ steps_by sides.now.old.schema.now sides.now.new.schema.now stage) }
+    pair: Pair,
+    numbers: &[u32],
+) -> Result<Vec<Step>, AllocError>
+    ensures { IfOk result (λ steps. map named steps.items
+        ≡ map (named_at sides.now.old.schema.now sides.now.new.schema.now pair) numbers.now) }
 {
-    if stage.choice.case != Case::Oneof {
-        return Ok(None);
+    let mut steps = Vec::with_capacity(alloc, numbers.len())?;
+    for number in numbers {
+        steps.push(step_of(alloc, sides, pair, *number)?)?;
     }
-    let other = step_of(alloc, sides, stage.pair, stage.choice.part)?;
-    Ok(Some(other))
+    Ok(steps)
 }
 
-/// The cause with its field, or its two fields, and its readings where these are asked for.
+/// The cause with its fields, and its readings where these are asked for.
 fn placed(
     alloc: Global,
     sides: &PlacedSchemas<'_>,
     cause: Cause,
     explain: bool,
 ) -> Result<PlacedCause, AllocError>
-    requires { IsPairOf sides.now.old.schema.now sides.now.new.schema.now cause.at.pair }
+    requires pair { IsPairOf sides.now.old.schema.now sides.now.new.schema.now cause.at.pair }
+    requires fields { 1 ≤ length cause.numbers.items }
     ensures same { IfOk result (λ placed. placed.cause ≡ cause) }
     ensures placed { IfOk result
         (IsPlaced sides.now.old.schema.now sides.now.new.schema.now explain) }
 {
     let pair = cause.at.pair;
-    let field = step_of(alloc, sides, pair, cause.at.choice.number)?;
-    let other = other_of(alloc, sides, cause.at)?;
+    let field = step_of(alloc, sides, pair, cause.numbers[0])?;
+    let others = steps_at(alloc, sides, pair, &cause.numbers[1..])?;
     let broken = Broken {
         pair,
         bytes: &cause.message,
@@ -58,7 +60,7 @@ fn placed(
     Ok(PlacedCause {
         cause,
         field,
-        other,
+        others,
         readings,
     })
 }
@@ -70,8 +72,8 @@ fn placed_each(
     causes: Vec<Cause>,
     explain: bool,
 ) -> Result<Vec<PlacedCause>, AllocError>
-    requires { AllByRecursion (λ (c : Cause).
-        IsPairOf sides.now.old.schema.now sides.now.new.schema.now c.at.pair) causes.items }
+    requires { AllByRecursion (HasFields sides.now.old.schema.now sides.now.new.schema.now)
+        causes.items }
     ensures same { IfOk result (λ placed. map without_place placed.items ≡ causes.items) }
     ensures placed { IfOk result (λ placed. AllByRecursion
         (IsPlaced sides.now.old.schema.now sides.now.new.schema.now explain) placed.items) }
@@ -97,8 +99,7 @@ fn all_placed(
     causes: Vec<Cause>,
     explain: bool,
 ) -> Result<Vec<PlacedCause>, AllocError>
-    requires { AllByRecursion (λ (c : Cause). IsPairOf old.now.schema new.now.schema c.at.pair)
-        causes.items }
+    requires { AllByRecursion (HasFields old.now.schema new.now.schema) causes.items }
     ensures same { IfOk result (λ placed. map without_place placed.items ≡ causes.items) }
     ensures placed { IfOk result (λ placed. AllByRecursion
         (IsPlaced old.now.schema new.now.schema explain) placed.items) }
@@ -111,16 +112,18 @@ fn all_placed(
     placed_each(alloc, &sides, causes, explain)
 }
 
-/// What is found of all message types of two sides that compiled, under the view.
+/// What is found of all message types of two sides that compiled, under the view, and what is noted
+/// of them.
 pub(crate) fn all_types(
     alloc: Global,
-    old: &Compiled,
-    new: &Compiled,
-    view: ViewName,
-    explain: bool,
+    both: &BothSides,
+    asked: &GateAllCall<'_>,
 ) -> Result<AllTypes, AllocError>
-    ensures { IfOk result (IsAllTypes view old.now.schema new.now.schema explain) }
+    ensures { IfOk result (IsAllTypes asked.now.view both.now.old.schema both.now.new.schema
+        asked.now.explain asked.now.notes) }
 {
+    let old = &both.old;
+    let new = &both.new;
     // What holds of every schema.
     old.schema.parts();
     new.schema.parts();
@@ -129,11 +132,12 @@ pub(crate) fn all_types(
         types,
         removed,
         added,
-    } = gate_all(alloc, &old.schema, &new.schema, view)?;
+    } = gate_all(alloc, &old.schema, &new.schema, asked.view)?;
     Ok(AllTypes {
-        causes: all_placed(alloc, old, new, causes, explain)?,
+        causes: all_placed(alloc, old, new, causes, asked.explain)?,
         types,
         removed,
         added,
+        notes: noted(alloc, old, new, asked.notes)?,
     })
 }

@@ -1,21 +1,22 @@
 //! A side's schema, from the source files or the descriptor set that its source gives.
-ghost use Rattle.std.specs.Prelude.{◌≡◌, IfErr, IfOk};
+ghost use Rattle.std.specs.Prelude.{◌≡◌, Some, IfErr, IfOk};
 ghost use Rattle.pg_link.specs.Linked.{IsLinkedUp};
 ghost use Rattle.pg_link.specs.walk.Walk.{IsLinked};
 ghost use Rattle.pg_check.specs.Declares.{Declares};
 ghost use Rattle.pg_check.specs.parts.Sources.{linked_sources};
 ghost use Rattle.pg_gate.specs.Failures.{side_failures};
 ghost use Rattle.pg_call.specs.Paths.{paths_in};
-ghost use Rattle.pg_gate.specs.answer.Files.{IsCompiled, IsErrorOf, IsFaultOf, IsFaultOfRead, IsRead, IsSide, IsSideError};
+ghost use Rattle.pg_gate.specs.answer.Files.{IsCompiled, IsErrorOf, IsFaultOf, IsSide, IsSideBy, IsSideError, IsSideFaultBy};
 ghost use Rattle.pg_link.specs.walk.Reads.{Reads};
 ghost use Rattle.pg_gate.specs.inner.Sources.{world_of};
 ghost use Rattle.pg_gate.specs.inner.Faults.{IsOfLink, IsOfRules};
 
+use crate::answer::folders::link_including;
 use crate::answer::sets::{read_set, set_at};
 use crate::error::{Fault, GateError, Side};
 use pg_call::Files;
 use pg_check::{CheckError, build};
-use pg_link::{LinkError, Linked, Sources, link_below};
+use pg_link::{LinkError, Linked, Sources};
 use pg_schema::Schema;
 use std::alloc::Global;
 
@@ -34,7 +35,7 @@ fn linked_files<S: Sources>(
         (IsOfLink (world_of S.Sources source.old (paths_in files.now))) side) }
     ensures reads { Reads S.Sources source.old source.new (side_failures side result) }
 {
-    match link_below(alloc, source, files.folder, files.paths) {
+    match link_including(alloc, source, files.folder, files.includes, files.paths) {
         Ok(linked) => Ok(linked),
         Err(LinkError::Memory) => Err(GateError::Memory),
         Err(error) => Err(GateError::Compile(side, Fault::Link(error))),
@@ -111,22 +112,21 @@ pub(crate) fn compile_sources<S: Sources>(
     }
 }
 
-/// The schema of the descriptor set at this path below the folder, which has no files.
+/// The schema of the descriptor set at this path of the files, which has no source files.
 fn compile_set<S: Sources>(
     alloc: Global,
     source: &mut S,
     side: Side,
-    folder: &str,
+    files: &Files<'_>,
     path: &str,
 ) -> Result<Compiled, GateError>
-    ensures stated { IfOk result (λ compiled.
-        IsRead (S.may_give source.old) folder.now path.now compiled.schema) }
-    ensures refused { IfErr result (IsErrorOf
-        (IsFaultOfRead (S.may_give source.old) (S.may_lack source.old)
-        folder.now path.now) side) }
+    ensures stated { IfOk result (λ compiled. IsSideBy (Some path.now)
+        (world_of S.Sources source.old (paths_in files.now)) compiled.schema) }
+    ensures refused { IfErr result (IsErrorOf (IsSideFaultBy (Some path.now)
+        (world_of S.Sources source.old (paths_in files.now))) side) }
     ensures reads { Reads S.Sources source.old source.new (side_failures side result) }
 {
-    let schema = read_set(alloc, source, side, folder, path)?;
+    let schema = read_set(alloc, source, side, files, path)?;
     Ok(Compiled {
         schema,
         files: None,
@@ -148,7 +148,7 @@ pub(crate) fn compile_files<S: Sources>(
     ensures reads { Reads S.Sources source.old source.new (side_failures side result) }
 {
     match set_at(files.paths) {
-        Some(path) => compile_set(alloc, source, side, files.folder, path),
+        Some(path) => compile_set(alloc, source, side, files, path),
         None => compile_sources(alloc, source, side, files),
     }
 }

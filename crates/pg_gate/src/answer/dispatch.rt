@@ -21,15 +21,14 @@ use crate::answer::causes::all_types;
 use crate::answer::compile::Compiled;
 use crate::answer::explaining::{Broken, explained};
 use crate::answer::gate::gate_with;
+use crate::answer::listing::{all_found, all_names, all_written};
 use crate::answer::showing::shown;
 use crate::answer::stepping::steps;
-use crate::answer::type_names::type_names;
 use crate::answer::verifying::verify;
 use crate::call_error::CallError;
 use crate::error::{GateError, Side};
 use crate::print::refusal::refusal_for;
 use crate::print::reply::{Finding, Reply};
-use crate::print::writing::written;
 use pg_call::{Call, GateAllCall, GateCall};
 use pg_cert::{Certificate, to_text};
 use pg_link::Sources;
@@ -174,14 +173,14 @@ fn all_between(
     asked: &GateAllCall<'_>,
 ) -> Result<AllTypes, GateError>
     ensures found { IfOk result (IsAllTypes asked.now.view both.now.old.schema both.now.new.schema
-        asked.now.explain) }
+        asked.now.explain asked.now.notes) }
     ensures refused { IfErr result IsMemory }
 {
-    Ok(all_types(alloc, &both.old, &both.new, asked.view, asked.explain)?)
+    Ok(all_types(alloc, both, asked)?)
 }
 
 /// What is found of all message types of the two sides.
-fn find_all<S: Sources, T: Sources>(
+pub(crate) fn find_all<S: Sources, T: Sources>(
     alloc: Global,
     asked: &GateAllCall<'_>,
     old: &mut S,
@@ -190,7 +189,7 @@ fn find_all<S: Sources, T: Sources>(
     ensures found { IfOk result (λ all. Between
         (world_of S.Sources old.old (paths_in asked.now.files.old))
         (world_of T.Sources new.old (paths_in asked.now.files.new))
-        (λ a b. IsAllTypes asked.now.view a b asked.now.explain all)) }
+        (λ a b. IsAllTypes asked.now.view a b asked.now.explain asked.now.notes all)) }
     ensures refused { IfErr result (IsSidesError
         (world_of S.Sources old.old (paths_in asked.now.files.old))
         (world_of T.Sources new.old (paths_in asked.now.files.new))) }
@@ -218,14 +217,16 @@ fn reply_to<S: Sources, T: Sources>(
     ensures new_reads { Reads T.Sources new.old new.new (call_failures Side.New result) }
 {
     match call {
-        Call::Compile(files) => Ok(Reply::Set(written(alloc, old, files)?)),
+        Call::Compile(files) => Ok(Reply::Set(all_written(alloc, old, files)?)),
         Call::Gate(asked) => Ok(find(alloc, asked, old, new)?),
-        Call::GateAll(asked) => Ok(Reply::All(find_all(alloc, asked, old, new)?)),
+        Call::GateAll(asked) => Ok(Reply::All(all_found(alloc, asked, old, new)?)),
         Call::Show(asked) => Ok(Reply::Shown(shown(alloc, old, asked)?)),
-        Call::Verify { files, certificate } => {
-            Ok(Reply::Found(verify(alloc, files, certificate, old, new)?))
-        }
-        Call::Types(files) => Ok(Reply::Shown(type_names(alloc, old, files)?)),
+        Call::Verify {
+            files,
+            certificate,
+            ..
+        } => Ok(Reply::Found(verify(alloc, files, certificate, old, new)?)),
+        Call::Types { files, .. } => Ok(Reply::Types(all_names(alloc, old, files)?)),
     }
 }
 

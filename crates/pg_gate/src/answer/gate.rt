@@ -166,11 +166,15 @@ pub fn gate_files<S: Sources, T: Sources>(
     let files = BothFiles {
         old: Files {
             folder: ".",
+            includes: &[],
             paths: old_roots,
+            list: &[],
         },
         new: Files {
             folder: ".",
+            includes: &[],
             paths: new_roots,
+            list: &[],
         },
     };
     let both = compile_both(alloc, &files, false, old, new)?;

@@ -1,16 +1,19 @@
 //! Sides that are descriptor sets.
-ghost use Rattle.std.specs.Prelude.{◌≡◌, IfErr, IfOk, IsTrue, option_map};
-ghost use Rattle.pg_link.specs.walk.FolderPath.{path_below};
+ghost use Rattle.std.specs.Prelude.{◌≡◌, Some, IfErr, IfOk, option_map};
 ghost use Rattle.pg_gate.specs.Failures.{side_failures};
-ghost use Rattle.pg_call.specs.Paths.{paths_of};
-ghost use Rattle.pg_gate.specs.answer.Files.{IsErrorOf, IsFaultOfRead, IsRead, IsStated};
+ghost use Rattle.pg_call.specs.Paths.{paths_in, paths_of};
+ghost use Rattle.pg_gate.specs.answer.Files.{IsErrorOf, IsSideBy, IsSideFaultBy, IsStated};
 ghost use Rattle.pg_gate.specs.answer.Files as spec;
 ghost use Rattle.pg_link.specs.walk.Reads.{Reads};
+ghost use Rattle.pg_link.specs.walk.Walk.{Gives};
+ghost use Rattle.pg_gate.specs.inner.Sources.{world_of};
 ghost use Rattle.pg_gate.specs.inner.Faults.{IsFaultOfBytes, IsGivenFault};
 
+use crate::answer::folders::read_including;
 use crate::error::{Fault, GateError, Side};
+use pg_call::Files;
 use pg_fds::{FdsError, read};
-use pg_link::{LinkError, Sources, read_file};
+use pg_link::{LinkError, Sources};
 use pg_schema::Schema;
 use std::alloc::Global;
 
@@ -37,16 +40,16 @@ fn bytes_of<S: Sources>(
     alloc: Global,
     source: &mut S,
     side: Side,
-    folder: &str,
+    files: &Files<'_>,
     path: &str,
 ) -> Result<Vec<u8>, GateError>
     ensures given { IfOk result (λ bytes.
-        IsTrue (S.may_give source.old (path_below folder.now path.now) bytes.items)) }
+        Gives (world_of S.Sources source.old (paths_in files.now)) path.now bytes.items) }
     ensures refused { IfErr result (IsErrorOf
-        (IsGivenFault (S.may_lack source.old) folder.now path.now) side) }
+        (IsGivenFault (world_of S.Sources source.old (paths_in files.now)) path.now) side) }
     ensures reads { Reads S.Sources source.old source.new (side_failures side result) }
 {
-    match read_file(alloc, source, folder, path) {
+    match read_including(alloc, source, files.folder, files.includes, path) {
         Ok(bytes) => Ok(bytes),
         Err(LinkError::Memory) => Err(GateError::Memory),
         Err(error) => Err(GateError::Compile(side, Fault::Link(error))),
@@ -65,21 +68,21 @@ fn stated(alloc: Global, side: Side, bytes: &[u8]) -> Result<Schema, GateError>
     }
 }
 
-/// The schema of the set at this path below the folder.
+/// The schema of the set at this path of the files.
 #[tactic(auto, using(crate::proofs::lemmas::ErrorLemmas::if_same_zero))]
 pub(crate) fn read_set<S: Sources>(
     alloc: Global,
     source: &mut S,
     side: Side,
-    folder: &str,
+    files: &Files<'_>,
     path: &str,
 ) -> Result<Schema, GateError>
-    ensures stated { IfOk result (IsRead (S.may_give source.old) folder.now path.now) }
-    ensures refused { IfErr result (IsErrorOf
-        (IsFaultOfRead (S.may_give source.old) (S.may_lack source.old)
-        folder.now path.now) side) }
+    ensures stated { IfOk result (IsSideBy (Some path.now)
+        (world_of S.Sources source.old (paths_in files.now))) }
+    ensures refused { IfErr result (IsErrorOf (IsSideFaultBy (Some path.now)
+        (world_of S.Sources source.old (paths_in files.now))) side) }
     ensures reads { Reads S.Sources source.old source.new (side_failures side result) }
 {
-    let bytes = bytes_of(alloc, source, side, folder, path)?;
+    let bytes = bytes_of(alloc, source, side, files, path)?;
     stated(alloc, side, &bytes)
 }

@@ -1,11 +1,12 @@
-//! The lines of the fields on a witness's path.
+//! The fields on a witness's path.
 ghost use Rattle.std.specs.Prelude.{Some};
 ghost use Rattle.pg_gate.specs.print.Text as spec;
 
 use pg_link::Place;
 use std::fmt;
 
-/// A field, by its full name, and where it is declared.
+/// A field, by its full name, and where it is declared. In a note it may be an enum's value or a
+/// method, too.
 #[derive(Drop)]
 pub(crate) struct NamedField {
     pub name: String,
@@ -20,10 +21,6 @@ pub(crate) struct Step {
     pub new: NamedField,
 }
 
-/// The lines of steps.
-#[derive(Clone, Copy)]
-pub(crate) struct Steps<'a>(pub &'a [Step]);
-
 impl fmt::Display for NamedField {
     ghost output = { λ it. Some (spec.field_of it) };
 
@@ -33,27 +30,5 @@ impl fmt::Display for NamedField {
             Some(place) => write!(f, "{name} {}:{}:{}", place.file, place.line, place.column),
             None => write!(f, "{name} -"),
         }
-    }
-}
-
-impl fmt::Display for Step {
-    ghost output = { λ it. Some (spec.step_of it) };
-
-    fn fmt<W: fmt::Write>(&self, f: &mut fmt::Formatter<W>) -> fmt::Result {
-        let number = self.number;
-        let old = &self.old;
-        let new = &self.new;
-        writeln!(f, "step {number} {old} {new}")
-    }
-}
-
-impl fmt::Display for Steps<'_> {
-    ghost output = { λ it. Some (spec.steps_of it.0.now) };
-
-    fn fmt<W: fmt::Write>(&self, f: &mut fmt::Formatter<W>) -> fmt::Result {
-        for step in self.0 {
-            write!(f, "{step}")?;
-        }
-        Ok(())
     }
 }

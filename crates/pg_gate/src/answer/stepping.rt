@@ -8,9 +8,11 @@ ghost use Rattle.pg_schema.specs.Parts.{shape_of};
 ghost use Rattle.pg_gate.specs.answer.Steps as spec;
 
 use crate::answer::compile::Compiled;
+use crate::answer::member::Member;
 use crate::answer::places::{Places, places_of};
 use crate::answer::step::{NamedField, Step};
 use crate::answer::verifying::name_of;
+use crate::answer::wanted::Wanted;
 use pg_cert::Certificate;
 use pg_least::{PairChoice, path};
 use pg_link::Place;
@@ -18,15 +20,15 @@ use pg_pairs::{Case, Pair};
 use pg_schema::{Schema, TypeId};
 use std::alloc::{AllocError, Global};
 
-/// A schema, and where the fields of some of its types are declared. The fields of a descriptor set
-/// have no positions.
+/// A schema, and where the members of some of its declarations are. Those of a descriptor set have no
+/// positions.
 #[derive(Drop)]
 pub(crate) struct PlacedSchema<'a> {
     pub schema: &'a Schema,
     places: Option<Places<'a>>,
 }
 
-/// The old and the new schema, with the positions of fields.
+/// The old and the new schema, with positions.
 #[derive(Drop)]
 pub(crate) struct PlacedSchemas<'a> {
     pub old: PlacedSchema<'a>,
@@ -34,7 +36,12 @@ pub(crate) struct PlacedSchemas<'a> {
 }
 
 /// The full name of the type's field of that number.
-fn field_name(alloc: Global, schema: &Schema, id: TypeId, number: u32) -> Result<String, AllocError>
+pub(crate) fn field_name(
+    alloc: Global,
+    schema: &Schema,
+    id: TypeId,
+    number: u32,
+) -> Result<String, AllocError>
     ensures { IfOk result (λ name. string_bytes name ≡ spec.field_name schema.now id number) }
 {
     let mut name = name_of(alloc, schema, id)?;
@@ -45,15 +52,14 @@ fn field_name(alloc: Global, schema: &Schema, id: TypeId, number: u32) -> Result
     Ok(name)
 }
 
-/// Where the type's field of that number is declared.
-fn place_of(
+/// Where the member is declared.
+pub(crate) fn place_of(
     alloc: Global,
-    places: &Option<Places<'_>>,
-    id: TypeId,
-    number: u32,
+    side: &PlacedSchema<'_>,
+    member: Member,
 ) -> Result<Option<Place>, AllocError> {
-    match places {
-        Some(places) => places.place(alloc, id, number),
+    match &side.places {
+        Some(places) => places.place(alloc, member),
         None => Ok(None),
     }
 }
@@ -70,7 +76,7 @@ fn named_field(
 {
     Ok(NamedField {
         name: field_name(alloc, side.schema, id, number)?,
-        place: place_of(alloc, &side.places, id, number)?,
+        place: place_of(alloc, side, Member::Field { id, number })?,
     })
 }
 
@@ -131,34 +137,44 @@ fn types_on(
     schema: &Schema,
     path: &[PairChoice],
     of_old: bool,
-) -> Result<Vec<bool>, AllocError> {
-    let mut wanted = vec![in alloc; false; schema.parts().types.len()]?;
+) -> Result<Wanted, AllocError> {
+    let mut wanted = Wanted::none(alloc, schema)?;
     for stage in path {
-        let id = if of_old {
+        wanted.want_type(if of_old {
             stage.pair.old
         } else {
             stage.pair.new
-        };
-        if let Some(mark) = wanted.get_mut(id.index as usize) {
-            *mark = true;
-        }
+        });
     }
     Ok(wanted)
 }
 
-/// Where the fields of the side's types on the path are declared.
-fn places_on<'a>(
+/// Where what is wanted of a side is declared.
+fn places_in<'a>(
     alloc: Global,
     side: &'a Compiled,
-    path: &[PairChoice],
-    of_old: bool,
+    wanted: &Wanted,
 ) -> Result<Option<Places<'a>>, AllocError> {
     let Some(files) = &side.files else {
         return Ok(None);
     };
-    let wanted = types_on(alloc, &side.schema, path, of_old)?;
-    let places = places_of(alloc, files, &wanted)?;
+    let places = places_of(alloc, files, &side.schema, wanted)?;
     Ok(Some(places))
+}
+
+/// A side's schema, with the positions of what is wanted.
+pub(crate) fn placed_schema<'a>(
+    alloc: Global,
+    side: &'a Compiled,
+    wanted: &Wanted,
+) -> Result<PlacedSchema<'a>, AllocError>
+    ensures { IfOk result (λ placed. placed.schema.now ≡ side.now.schema) }
+{
+    let places = places_in(alloc, side, wanted)?;
+    Ok(PlacedSchema {
+        schema: &side.schema,
+        places,
+    })
 }
 
 /// The schemas of two sides, with the positions of the fields of the types on the path.
@@ -171,17 +187,11 @@ pub(crate) fn placed_schemas<'a>(
     ensures old { IfOk result (λ sides. sides.old.schema.now ≡ old.now.schema) }
     ensures new { IfOk result (λ sides. sides.new.schema.now ≡ new.now.schema) }
 {
-    let old_places = places_on(alloc, old, path, true)?;
-    let new_places = places_on(alloc, new, path, false)?;
+    let old_wanted = types_on(alloc, &old.schema, path, true)?;
+    let new_wanted = types_on(alloc, &new.schema, path, false)?;
     Ok(PlacedSchemas {
-        old: PlacedSchema {
-            schema: &old.schema,
-            places: old_places,
-        },
-        new: PlacedSchema {
-            schema: &new.schema,
-            places: new_places,
-        },
+        old: placed_schema(alloc, old, &old_wanted)?,
+        new: placed_schema(alloc, new, &new_wanted)?,
     })
 }
 

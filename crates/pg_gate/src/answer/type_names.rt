@@ -1,5 +1,5 @@
 //! The names of the message types that files declare.
-ghost use Rattle.std.specs.Prelude.{IfErr, IfOk, string_bytes};
+ghost use Rattle.std.specs.Prelude.{IfErr, IfOk};
 ghost use Rattle.pg_gate.specs.Failures.{side_failures};
 ghost use Rattle.pg_call.specs.Paths.{paths_in};
 ghost use Rattle.pg_gate.specs.answer.Files.{IsSideError};
@@ -15,15 +15,14 @@ use pg_link::Sources;
 use pg_schema::Schema;
 use std::alloc::{AllocError, Global};
 
-/// The full names of the schema's message types, one a line.
-fn names_of(alloc: Global, schema: &Schema) -> Result<String, AllocError>
-    ensures { IfOk result (λ text. ListsTypes schema.now (string_bytes text)) }
+/// The full names of the schema's message types.
+fn names_of(alloc: Global, schema: &Schema) -> Result<Vec<String>, AllocError>
+    ensures { IfOk result (λ names. ListsTypes schema.now names.items) }
 {
-    let mut names = String::new(alloc);
+    let mut names = Vec::new(alloc);
     let types = schema.parts().types.as_slice();
     for message_type in types {
-        names.push_str(message_type.name.as_str())?;
-        names.push_str("\n")?;
+        names.push(String::from_str(alloc, message_type.name.as_str())?)?;
     }
     Ok(names)
 }
@@ -33,10 +32,10 @@ pub(crate) fn type_names<S: Sources>(
     alloc: Global,
     source: &mut S,
     files: &Files<'_>,
-) -> Result<String, GateError>
-    ensures named { IfOk result (λ text. OfSide
+) -> Result<Vec<String>, GateError>
+    ensures named { IfOk result (λ names. OfSide
         (world_of S.Sources source.old (paths_in files.now))
-        (λ schema. ListsTypes schema (string_bytes text))) }
+        (λ schema. ListsTypes schema names.items)) }
     ensures refused { IfErr result (IsSideError
         (world_of S.Sources source.old (paths_in files.now)) Side.Old) }
     ensures reads { Reads S.Sources source.old source.new (side_failures Side.Old result) }

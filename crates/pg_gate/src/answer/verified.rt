@@ -1,10 +1,8 @@
-//! What a certificate shows, as it is printed.
-ghost use Rattle.std.specs.Prelude.{◌≡◌, Some};
+//! What a certificate shows.
+ghost use Rattle.std.specs.Prelude.{◌≡◌};
 ghost use Rattle.pg_gate.specs.print.Printed.{verdict_status};
-ghost use Rattle.pg_gate.specs.print.Text as spec;
 
 use pg_cert::Verdict;
-use std::fmt;
 
 /// What a certificate that holds shows of its root types: the full name of the old one, the
 /// verdict, and how many bytes the witness has, where there is one.
@@ -25,22 +23,6 @@ impl Verified {
             Verdict::Compatible => 0,
             Verdict::Breaks => 1,
             Verdict::AtLeast(_) => 5,
-        }
-    }
-}
-
-impl fmt::Display for Verified {
-    ghost output = { λ it. Some (spec.verified_of it) };
-
-    fn fmt<W: fmt::Write>(&self, f: &mut fmt::Formatter<W>) -> fmt::Result {
-        let name = &self.name;
-        match self.verdict {
-            Verdict::Compatible => writeln!(f, "compatible {name}"),
-            Verdict::Breaks => {
-                let length = self.length;
-                writeln!(f, "breaks {name} {length}")
-            }
-            Verdict::AtLeast(bytes) => writeln!(f, "bound {name} {bytes}"),
         }
     }
 }

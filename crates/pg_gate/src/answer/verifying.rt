@@ -4,12 +4,12 @@ ghost use Rattle.pg_cert.specs.Verdict.{verdict_of};
 ghost use Rattle.pg_cert.specs.ClaimView.{HoldsOf, SaysOf};
 ghost use Rattle.pg_cert.specs.Text.{Certifies, names_of};
 ghost use Rattle.pg_gate.specs.Failures.{call_failures};
-ghost use Rattle.pg_gate.specs.answer.Grants.{IsVerified, IsVerifyError};
+ghost use Rattle.pg_gate.specs.answer.Grants.{IsVerified, IsVerifyError, as_given};
 ghost use Rattle.pg_call.specs.Paths.{paths_in};
 ghost use Rattle.pg_link.specs.walk.Reads.{Reads};
 ghost use Rattle.pg_gate.specs.inner.Sources.{world_of};
 ghost use Rattle.pg_gate.specs.answer.Verified as spec;
-ghost use Rattle.pg_gate.specs.inner.Claims.{IsClaimError, IsClaimRefusal, IsFound, IsUngiven, IsUntaken, as_given};
+ghost use Rattle.pg_gate.specs.inner.Claims.{IsClaimError, IsClaimRefusal, IsFound, IsUngiven, IsUntaken};
 
 use crate::answer::both_sides::{BothSides, compile_both};
 use crate::answer::verified::Verified;
@@ -215,9 +215,11 @@ pub(crate) fn verify<S: Sources, T: Sources>(
     new: &mut T,
 ) -> Result<Finding, CallError>
     ensures found { IfOk result (IsVerified certificate.now
+        (as_given (S.may_give old.old) (S.may_lack old.old))
         (world_of S.Sources old.old (paths_in files.now.old))
         (world_of T.Sources new.old (paths_in files.now.new))) }
     ensures refused { IfErr result (IsVerifyError certificate.now
+        (as_given (S.may_give old.old) (S.may_lack old.old))
         (world_of S.Sources old.old (paths_in files.now.old))
         (world_of T.Sources new.old (paths_in files.now.new))) }
     ensures old_reads { Reads S.Sources old.old old.new (call_failures Side.Old result) }

@@ -4,7 +4,7 @@ ghost use Rattle.pg_gate.specs.print.Refusals as refusals;
 ghost use Rattle.pg_gate.specs.print.Text as spec;
 
 use crate::call_error::{CertificateFault, PairNames};
-use crate::error::Fault;
+use crate::error::{Fault, ListError};
 use pg_link::Place;
 use std::fmt;
 
@@ -59,6 +59,15 @@ pub(crate) fn location_of(at: Option<usize>) -> Location
     }
 }
 
+/// Where a list is at fault.
+fn location_of_list(error: ListError) -> Location
+    ensures { result ≡ refusals.location_of_list error }
+{
+    match error {
+        ListError::NotUtf8(place) | ListError::NoFile(place) => located(place),
+    }
+}
+
 /// Where a side is at fault. A rule that a set breaks has no position in a source file.
 pub(crate) fn location_of_fault(fault: Fault) -> Location
     ensures { result ≡ refusals.location_of_fault fault }
@@ -67,6 +76,7 @@ pub(crate) fn location_of_fault(fault: Fault) -> Location
         Fault::Link(error) => location_at(error.place()),
         Fault::Check(error) => location_at(error.place()),
         Fault::Set(error) => location_of(error.at()),
+        Fault::List(error) => location_of_list(error),
     }
 }
 

@@ -12,6 +12,13 @@ use pg_call::Call;
 use pg_dyn::DynError;
 use std::fmt;
 
+/// The code of a side that names no file.
+const NO_FILE: u16 = 907;
+
+/// The status of arguments that `clap` doesn't take, as of those that ask for help, and of a side
+/// that names no file.
+pub(crate) const USAGE: u8 = 4;
+
 /// A refusal: the side that was compiled, the code's number, and where the fault is.
 #[derive(Drop)]
 pub(crate) struct Refusal {
@@ -21,11 +28,15 @@ pub(crate) struct Refusal {
 }
 
 impl Refusal {
-    /// 3 for a fault of a device, and else 2.
+    /// 3 for a fault of a device, 4 for a side that names no file, and else 2.
     pub(crate) fn status(&self) -> u8
         ensures { result ≡ printed.refusal_status self.now }
     {
-        if self.code == SOURCE_FAILED { 3 } else { 2 }
+        match self.code {
+            SOURCE_FAILED => 3,
+            NO_FILE => USAGE,
+            _ => 2,
+        }
     }
 
     /// The refusal without its side, for files that are compiled by themselves.
@@ -97,7 +108,7 @@ pub(crate) fn refusal_for(call: &Call<'_>, error: CallError) -> Option<Refusal>
 {
     let refusal = refusal_of(error)?;
     match call {
-        Call::Compile(_) | Call::Show(_) | Call::Types(_) => Some(refusal.without_side()),
+        Call::Compile(_) | Call::Show(_) | Call::Types { .. } => Some(refusal.without_side()),
         Call::Gate(_) | Call::GateAll(_) | Call::Verify { .. } => Some(refusal),
     }
 }

@@ -1,22 +1,20 @@
 //! What a call is answered, its output and its status.
-ghost use Rattle.std.specs.Prelude.{◌≡◌, Some, IfOk};
-ghost use Rattle.pg_gate.specs.print.Text as spec;
-ghost use Rattle.pg_gate.specs.print.Printed.{either_status, finding_status, status_of, text_of};
+ghost use Rattle.std.specs.Prelude.{◌≡◌, IfOk};
+ghost use Rattle.pg_gate.specs.print.Printed.{either_status, finding_status, json_text, status_of, text_of, words_text};
 
 use crate::answer::all_types::AllTypes;
-use crate::answer::step::{Step, Steps};
+use crate::answer::step::Step;
 use crate::answer::verified::Verified;
-use crate::print::hex::Hex;
+use crate::print::lines::{json_for, words_for};
 use crate::print::refusal::Refusal;
 use std::alloc::{AllocError, Global};
-use std::fmt;
 
 /// What a call is answered.
 #[derive(Drop)]
 pub(crate) enum Reply {
     /// The bytes of a descriptor set.
     Set(Vec<u8>),
-    /// The lines of a message, or the names of message types.
+    /// The lines of a message.
     Shown(String),
     /// What is found in the one direction that is asked for.
     Found(Finding),
@@ -24,6 +22,8 @@ pub(crate) enum Reply {
     Both { forward: Finding, backward: Finding },
     /// What is found of all message types of both sides.
     All(AllTypes),
+    /// The full names of message types.
+    Types(Vec<String>),
     Refused(Refusal),
 }
 
@@ -55,17 +55,6 @@ pub(crate) struct Readings {
     pub new: String,
 }
 
-/// The lines of readings, where there are some.
-#[derive(Clone, Copy)]
-pub(crate) struct ReadingLines<'a>(pub &'a Option<Readings>);
-
-/// What is found of the types of this name. A certificate names its own.
-#[derive(Clone, Copy)]
-pub(crate) struct Report<'a> {
-    pub root: &'a str,
-    pub finding: &'a Finding,
-}
-
 /// 1 where a message breaks in either direction, and else 0.
 fn either(forward: u8, backward: u8) -> u8
     ensures { result ≡ either_status forward backward }
@@ -79,7 +68,7 @@ impl Reply {
         ensures { result ≡ status_of self.now }
     {
         match self {
-            Reply::Set(_) | Reply::Shown(_) => 0,
+            Reply::Set(_) | Reply::Shown(_) | Reply::Types(_) => 0,
             Reply::Found(finding) => finding.status(),
             Reply::Both { forward, backward } => either(forward.status(), backward.status()),
             Reply::All(all) => all.status(),
@@ -87,35 +76,38 @@ impl Reply {
         }
     }
 
-    /// The reply's output, for the root types of this name.
-    fn into_text(self, alloc: Global, root: &str) -> Result<Vec<u8>, AllocError>
-        ensures { IfOk result (λ text. text.items ≡ text_of root.now self) }
+    /// The reply's output as JSON, for the root types of this name.
+    fn into_json(self, alloc: Global, root: &str) -> Result<Vec<u8>, AllocError>
+        ensures { IfOk result (λ text. text.items ≡ json_text root.now self) }
+    {
+        let text = match self {
+            Reply::Set(bytes) => return Ok(bytes),
+            reply => json_for(alloc, root, &reply)?,
+        };
+        Ok(text.into_bytes())
+    }
+
+    /// The reply's output in words, for the root types of this name.
+    fn into_words(self, alloc: Global, root: &str) -> Result<Vec<u8>, AllocError>
+        ensures { IfOk result (λ text. text.items ≡ words_text root.now self) }
     {
         let text = match self {
             Reply::Set(bytes) => return Ok(bytes),
             Reply::Shown(text) => text,
-            Reply::Found(finding) => {
-                let report = Report {
-                    root,
-                    finding: &finding,
-                };
-                format!(in alloc; "{report}")?
-            }
-            Reply::Both { forward, backward } => {
-                let forward = Report {
-                    root,
-                    finding: &forward,
-                };
-                let backward = Report {
-                    root,
-                    finding: &backward,
-                };
-                format!(in alloc; "forward\n{forward}backward\n{backward}")?
-            }
-            Reply::All(all) => format!(in alloc; "{all}")?,
-            Reply::Refused(refusal) => format!(in alloc; "{refusal}")?,
+            reply => words_for(alloc, root, &reply)?,
         };
         Ok(text.into_bytes())
+    }
+
+    /// The reply's output, as JSON or in words.
+    fn into_text(self, alloc: Global, root: &str, json: bool) -> Result<Vec<u8>, AllocError>
+        ensures { IfOk result (λ text. text.items ≡ text_of json root.now self) }
+    {
+        if json {
+            self.into_json(alloc, root)
+        } else {
+            self.into_words(alloc, root)
+        }
     }
 }
 
@@ -127,14 +119,19 @@ pub(crate) struct Output {
 }
 
 impl Reply {
-    /// The reply's output and its status.
-    pub(crate) fn into_output(self, alloc: Global, root: &str) -> Result<Output, AllocError>
-        ensures text { IfOk result (λ output. output.text.items ≡ text_of root.now self) }
+    /// The reply's output, as JSON or in words, and its status.
+    pub(crate) fn into_output(
+        self,
+        alloc: Global,
+        root: &str,
+        json: bool,
+    ) -> Result<Output, AllocError>
+        ensures text { IfOk result (λ output. output.text.items ≡ text_of json root.now self) }
         ensures status { IfOk result (λ output. output.status ≡ status_of self) }
     {
         let status = self.status();
         Ok(Output {
-            text: self.into_text(alloc, root)?,
+            text: self.into_text(alloc, root, json)?,
             status,
         })
     }
@@ -150,43 +147,6 @@ impl Finding {
             Finding::Breaks { .. } => 1,
             Finding::Certified { breaks, .. } => if *breaks { 1 } else { 0 },
             Finding::Verified(verified) => verified.status(),
-        }
-    }
-}
-
-impl fmt::Display for ReadingLines<'_> {
-    ghost output = { λ it. Some (spec.readings_of it.0.now) };
-
-    fn fmt<W: fmt::Write>(&self, f: &mut fmt::Formatter<W>) -> fmt::Result {
-        match self.0 {
-            Some(readings) => write!(f, "old\n{}new\n{}", readings.old, readings.new),
-            None => Ok(()),
-        }
-    }
-}
-
-impl fmt::Display for Report<'_> {
-    ghost output = { λ it. Some (spec.finding_of it.root.now it.finding.now) };
-
-    fn fmt<W: fmt::Write>(&self, f: &mut fmt::Formatter<W>) -> fmt::Result {
-        let root = self.root;
-        match self.finding {
-            Finding::Compatible => writeln!(f, "compatible {root}"),
-            Finding::Breaks {
-                witness,
-                steps,
-                readings,
-            } => {
-                let length = witness.len();
-                let witness = Hex(witness);
-                let steps = Steps(steps);
-                let readings = ReadingLines(readings);
-                writeln!(f, "breaks {root} {length}")?;
-                writeln!(f, "witness {witness}")?;
-                write!(f, "{steps}{readings}")
-            }
-            Finding::Certified { text, .. } => write!(f, "{text}"),
-            Finding::Verified(verified) => write!(f, "{verified}"),
         }
     }
 }

@@ -1,9 +1,6 @@
 use Rattle.std.proofs.Common.{rules}
 use Rattle.promises_run.proofs.run_unanswered.Goals as goal
 
-pub returns-clause-unasked : goal.returns-clause-unasked
-returns-clause-unasked c = search rules
-
 pub returns-clause-uncalled : goal.returns-clause-uncalled
 returns-clause-uncalled c = search rules
 

@@ -22,9 +22,9 @@ use Rattle.pg_schema.specs.declared.parts.Parts.{Parts}
 use Rattle.pg_least.specs.Loss.{IsNamed}
 use Rattle.pg_gate.specs.Failures.{call_failures_at}
 use Rattle.pg_gate.specs.answer.Files.{IsSide}
-use Rattle.pg_gate.specs.answer.Grants.{IsSidesFault, IsVerified, IsVerifyError}
+use Rattle.pg_gate.specs.answer.Grants.{IsSidesFault, IsVerified, IsVerifyError, as_given}
 use Rattle.pg_gate.specs.answer.Verified.{HasFirstFault, IsClaimFault, IsFaultOfClaim, IsPlaceOf}
-use Rattle.pg_gate.specs.inner.Claims.{IsClaimError, IsClaimRefusal, IsFound, IsUngiven, IsUntaken, as_given}
+use Rattle.pg_gate.specs.inner.Claims.{IsClaimError, IsClaimRefusal, IsFound, IsUngiven, IsUntaken}
 use Rattle.pg_gate.specs.declared.call_error.CallError.{CallError}
 use Rattle.pg_gate.specs.declared.call_error.CallError.TheVariants as calls
 use Rattle.pg_gate.specs.declared.call_error.CertificateFault.TheVariants as certificates
@@ -162,16 +162,16 @@ module _ (give : Text → Text → Bool) (lack : Text → Bool) (path : Text) (a
 
 -- ---- sides
 
-module _ (path : Text) (old new : World) (a b : Parts) (of_old : IsSide old a) (of_new : IsSide new b) where
-  pub found_of_files : (lack : Text → Bool) (finding : Finding) → IsFound (as_given old.may_give lack) path a b finding → IsVerified path old new finding
-  found_of_files lack finding is = record { old_schema = a; new_schema = b; of_old = of_old; of_new = of_new; so = record { bytes = is.bytes; given = is.given; so = is.so } }
+module _ (path : Text) (source old new : World) (a b : Parts) (of_old : IsSide old a) (of_new : IsSide new b) where
+  pub found_of_files : (finding : Finding) → IsFound source path a b finding → IsVerified path source old new finding
+  found_of_files finding is = record { old_schema = a; new_schema = b; of_old = of_old; of_new = of_new; so = is }
 
-  pub untaken_of_files : (error : CallError) → IsUntaken (as_given old.may_give old.may_lack) path a b error → IsVerifyError path old new error
+  pub untaken_of_files : (error : CallError) → IsUntaken source path a b error → IsVerifyError path source old new error
   untaken_of_files (calls.Gate error) is = memory_is ⊥ ⊥ ⊥ (IsSidesFault old new) error is
   untaken_of_files (calls.Certificate (certificates.Missing file)) is = record { old_schema = a; new_schema = b; of_old = of_old; of_new = of_new; so = is }
   untaken_of_files (calls.Certificate (certificates.Failed file)) is = record { old_schema = a; new_schema = b; of_old = of_old; of_new = of_new; so = is }
   untaken_of_files (calls.Certificate (certificates.Refused fault)) is =
-      record { old_schema = a; new_schema = b; of_old = of_old; of_new = of_new; so = record { bytes = is.bytes; given = is.given; so = is.so } }
+      record { old_schema = a; new_schema = b; of_old = of_old; of_new = of_new; so = is }
   untaken_of_files (calls.Bytes error) is = absurd is
 
 -- no source failed where bytes are refused

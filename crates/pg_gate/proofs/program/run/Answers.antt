@@ -1,13 +1,13 @@
-use Rattle.std.proofs.Common.{refl, inr}
+use Rattle.std.proofs.Common.{refl, inl, inr}
 use Rattle.std.proofs.lemmas.Result.{IfOk-weaker}
 use Rattle.pg_call.specs.Call.{request_of}
 use Rattle.pg_gate.specs.Run.{answered, unfailed}
 use Rattle.pg_gate.proofs.lemmas.RunLemmas.{nothing_came}
 use Rattle.pg_gate.proofs.program.run.Goals as goal
 
--- Usage is answered only to arguments that `clap` doesn't take.
+-- Usage is answered to arguments that `clap` doesn't take.
 pub returns-in-Err-clause-usage : goal.returns-in-Err-clause-usage
-returns-in-Err-clause-usage g c = IfOk-weaker c.usage.result _ _ (λ status is same. c.in-Err.ensures.refused is.1) c.usage.ensures.usage
+returns-in-Err-clause-usage g c = IfOk-weaker c.usage.result _ _ (λ status is same. inl (c.in-Err.ensures.refused is.1, refl, refl)) c.usage.ensures.usage
 
 pub returns-in-Err-clause-begun : goal.returns-in-Err-clause-begun
 returns-in-Err-clause-begun g c = λ failed. inr (c.in-Err.ensures.refused (c.usage.ensures.refused failed), refl, refl)

@@ -5,7 +5,8 @@ use Rattle.pg_link.specs.names.Names.{Text}
 use Rattle.pg_gate.specs.Failures.{call_failures_at}
 use Rattle.pg_call.specs.Paths.{paths_in}
 use Rattle.pg_gate.specs.inner.Sources.{world_of}
-use Rattle.pg_gate.specs.inner.Claims.{IsFound, IsUntaken, as_given}
+use Rattle.pg_gate.specs.answer.Grants.{as_given}
+use Rattle.pg_gate.specs.inner.Claims.{IsFound, IsUntaken}
 use Rattle.pg_gate.specs.declared.error.Side.TheVariants as sides
 use Rattle.pg_gate.proofs.lemmas.ErrorLemmas.{none_counted}
 use Rattle.pg_gate.proofs.lemmas.answer.SourceLemmas.{no_more, then}
@@ -29,8 +30,12 @@ returns-in-Ok-clause-found g c =
     let a = c.in-Ok.both.old.schema in
     let b = c.in-Ok.both.new.schema in
     let lack = g.S.Sources.may_lack c.compile_both.new.old in
-    let found = subst (λ (give : Text → Text → Bool). IfOk c.verify_between.result (IsFound (as_given give lack) path a b)) c.in-Ok.ensures.old_reads.same_given c.verify_between.ensures.found in
-    IfOk-weaker c.verify_between.result _ _ (λ finding is. found_of_files path old new a b c.in-Ok.ensures.old_compiled c.in-Ok.ensures.new_compiled lack finding is) found
+    let reads = c.in-Ok.ensures.old_reads in
+    let asked = subst (λ (give : Text → Text → Bool). IfOk c.verify_between.result (IsFound (as_given give lack) path a b)) reads.same_given c.verify_between.ensures.found in
+    let give = g.S.Sources.may_give c.args.old.now in
+    let found = subst (λ (lack : Text → Bool). IfOk c.verify_between.result (IsFound (as_given give lack) path a b)) reads.same_lacked asked in
+    let source = as_given give (g.S.Sources.may_lack c.args.old.now) in
+    IfOk-weaker c.verify_between.result _ _ (λ finding is. found_of_files path source old new a b c.in-Ok.ensures.old_compiled c.in-Ok.ensures.new_compiled finding is) found
 
 pub returns-in-Ok-clause-refused : goal.returns-in-Ok-clause-refused
 returns-in-Ok-clause-refused g c =
@@ -41,8 +46,9 @@ returns-in-Ok-clause-refused g c =
     let b = c.in-Ok.both.new.schema in
     let reads = c.in-Ok.ensures.old_reads in
     let asked = subst (λ (give : Text → Text → Bool). IfErr c.verify_between.result (IsUntaken (as_given give (g.S.Sources.may_lack c.compile_both.new.old)) path a b)) reads.same_given c.verify_between.ensures.refused in
-    let refused = subst (λ (lack : Text → Bool). IfErr c.verify_between.result (IsUntaken (as_given old.may_give lack) path a b)) reads.same_lacked asked in
-    IfErr-weaker c.verify_between.result _ _ (λ error is. untaken_of_files path old new a b c.in-Ok.ensures.old_compiled c.in-Ok.ensures.new_compiled error is) refused
+    let refused = subst (λ (lack : Text → Bool). IfErr c.verify_between.result (IsUntaken (as_given (g.S.Sources.may_give c.args.old.now) lack) path a b)) reads.same_lacked asked in
+    let source = as_given (g.S.Sources.may_give c.args.old.now) (g.S.Sources.may_lack c.args.old.now) in
+    IfErr-weaker c.verify_between.result _ _ (λ error is. untaken_of_files path source old new a b c.in-Ok.ensures.old_compiled c.in-Ok.ensures.new_compiled error is) refused
 
 pub returns-in-Ok-clause-old_reads : goal.returns-in-Ok-clause-old_reads
 returns-in-Ok-clause-old_reads g c =

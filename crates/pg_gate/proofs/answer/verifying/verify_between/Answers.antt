@@ -2,7 +2,8 @@ use Rattle.std.proofs.Common.{◌≡◌, subst, sym}
 use Rattle.std.proofs.lemmas.Result.{IfErr-weaker, IfOk-weaker}
 use Rattle.std.specs.Prelude.{IsTrue}
 use Rattle.pg_gate.specs.Failures.{call_failures_at}
-use Rattle.pg_gate.specs.inner.Claims.{IsClaimError, IsUntaken, as_given}
+use Rattle.pg_gate.specs.answer.Grants.{as_given}
+use Rattle.pg_gate.specs.inner.Claims.{IsClaimError, IsUntaken}
 use Rattle.pg_gate.specs.declared.call_error.CallError.{CallError}
 use Rattle.pg_gate.specs.declared.error.Side.TheVariants as sides
 use Rattle.pg_gate.proofs.lemmas.ErrorLemmas.{IfErr-IsErrAnd, none_counted}

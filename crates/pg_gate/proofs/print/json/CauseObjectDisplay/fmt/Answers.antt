@@ -1,0 +1,11 @@
+-- The members come after one another.
+use Rattle.std.proofs.Common.{refl, sym, rules, append_assoc}
+use Rattle.std.proofs.Output.{has_written_append, has_written_of_eq}
+use Rattle.pg_gate.proofs.print.json.CauseObjectDisplay.fmt.Goals as goal
+
+pub returns-clause-writes : goal.returns-clause-writes
+returns-clause-writes g c plain ok =
+    let one = c.write.ensures.writes plain (search rules) in
+    let two = c.write-2.ensures.writes one.plain (search rules) in
+    let three = c.write-3.ensures.writes two.plain ok in
+    rw (sym c.reason_word.ensures, sym c.deref.ensures.value, c.deref.ensures.len, sym c.len-length.ensures, sym c.deref-2.ensures.value) (has_written_of_eq _ _ _ _ _ (simp append_assoc refl) (has_written_append _ _ _ _ _ _ (has_written_append _ _ _ _ _ _ one two) three))
