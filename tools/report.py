@@ -1,8 +1,22 @@
-#!/usr/bin/env python3
-"""Writes one page of what examples/ci/gate.sh found: each cause, with a message that shows it as each side reads it, the fields, and how to
+#!/bin/sh
+''':'
+# (A shell reads these lines, as no first line of a script can say `python3 -I` everywhere. To Python they are a string.)
+exec python3 -I -B -c '
+import os, sys
+here = os.path.dirname(os.path.realpath(sys.argv[1]))
+sys.path[:0] = [here, here + "/../examples/ci"]
+try:
+    from start import start
+except BaseException as fault:
+    os.write(2, ("report: start.py cannot be read (" + str(fault) + ")" + os.linesep).encode("utf-8", "replace"))
+    os._exit(3)
+start("report", "report", sys.argv[2:])
+' "$0" "$@"
+'''
+__doc__ = """Writes one page of what examples/ci/gate.sh found: each cause, with a message that shows it as each side reads it, the fields, and how to
 mend it; the types that break; what was refused and how to mend it; and warnings.
 
-usage: gate.sh --record run.json REVISION FOLDER; tools/report.py run.json > report.html
+usage: gate.sh --record run.json REVISION FOLDER; tools/report.py --output report.html run.json
 
 The page needs nothing else: no script, no other file, no network. A position is a link into the repository where the record was made on
 GitHub or GitLab, or where --old-link and --new-link say how it goes, with {path} and {line} in it.
@@ -25,15 +39,18 @@ HERE = os.path.dirname(os.path.realpath(__file__))
 # What it shares with gate.py is beside it where it is installed, where nothing is to be written.
 sys.dont_write_bytecode = True
 sys.path += [HERE, f"{HERE}/../examples/ci"]
+import outputs  # noqa: E402
+from calls import Stop, plain  # noqa: E402
 from causes import mend, why  # noqa: E402
+from records import VERSION, read  # noqa: E402
 from refusals import code_in, mend_of, sentence_of  # noqa: E402
 from wording import last_fields  # noqa: E402
 
 NAME = os.environ.get("PROTOGATE_REPORT_NAME") or "report.py"
-# The version of the records that it reads.
-VERSION = 2
 # As many bytes of a witness, and lines of a reading, are printed.
 SHOWN = 2000
+# As many fields are named at the head of a cause.
+MOST_NAMED = 8
 SAYS = {"breaks": "breaks", "refused": "refused", "removed": "removed", "added": "new", "compatible": "compatible"}
 HEADS = {"forward": "breaks old messages", "backward": "writes messages that old programs misread"}
 MEND_READING = "Leave the field's type as it was, or give the new one a number of its own."
@@ -101,7 +118,7 @@ def links(record, environment):
         base, head, mark = f"{environment['CI_PROJECT_URL']}/-/blob", environment.get("CI_COMMIT_SHA", "HEAD"), "#L{line}"
     else:
         return {"old": None, "new": None}
-    return {"old": f"{base}/{record['commit']}/{{path}}{mark}", "new": f"{base}/{head}/{{path}}{mark}"}
+    return {"old": f"{base}/{quote(record['commit'])}/{{path}}{mark}", "new": f"{base}/{head}/{{path}}{mark}"}
 
 
 def path_of(file, record):
@@ -118,7 +135,8 @@ def place_of(place, record, link):
     shown = code((path or found[1]) + place[len(found[1]):])
     if not link or not path:
         return shown
-    target = link.replace("{path}", quote(path, errors="surrogateescape")).replace("{line}", found[2])
+    # (a path that a record names leads to no other host: a `:` is quoted, and it begins with no `/`)
+    target = link.replace("{path}", quote(path.lstrip("/"), errors="surrogateescape")).replace("{line}", quote(found[2]))
     return f'<a href="{text(target)}">{shown}</a>'
 
 
@@ -220,19 +238,21 @@ def cause_of(cause, record, link):
     """A cause: why it breaks, a message that shows it, both readings, the fields, what to do, and the types that break by it."""
     writer, _ = sides_of(cause)
     fields = [{**cause["fields"][0], "number": cause["number"]}, *cause["fields"][1:]]
-    names = " and ".join(code(it["old"]) for it in fields)
-    way = tag("span", cause["direction"], "dim") if record["both"] else ""
+    more = len(fields) - MOST_NAMED
+    named = [code(it["old"]) for it in fields[:MOST_NAMED]] + [f"{more} more"] * (more > 0)
+    names = " and ".join(filter(None, (", ".join(named[:-1]), named[-1])))
+    way = tag("span", text(cause["direction"]), "dim") if record["both"] else ""
     owner = code(fields[0][writer].rpartition(".")[0])
     types = tag("p", f"What breaks by it: {', '.join(map(code, cause['types']))}", "dim") if cause["types"] else ""
     backward = f" {BACKWARD}" if writer == "new" else ""
     parts = [
         tag("div", f"{tag('span', text(cause['case']), 'verdict breaks')} {tag('h3', names)} {way}", "head"),
         tag("p", text(why(cause))),
-        tag("p", f"The {writer} side can write this message of {owner}, of {cause['length']} bytes:"),
+        tag("p", f"The {writer} side can write this message of {owner}, of {text(cause['length'])} bytes:"),
         message_of(cause),
         readings(cause),
         listed(fields, record, link),
-        tag("p", f"{tag('b', 'What to do:')} {text(mend(cause))}{backward}"),
+        tag("p", f"{tag('b', 'What to do:')} {marked(mend(cause))}{backward}"),
         types,
     ]
     return tag("article", "".join(parts))
@@ -248,7 +268,7 @@ def way_of(answer, record):
 
 def head_of(answer, record):
     way = way_of(answer, record)
-    way = tag("span", way, "dim") if way else ""
+    way = tag("span", text(way), "dim") if way else ""
     return tag("div", f"{tag('span', SAYS[answer['verdict']], 'verdict ' + answer['verdict'])} {tag('h3', code(answer['type']))} {way}", "head")
 
 
@@ -263,11 +283,11 @@ def way_to(answer, record, link):
 def breaking(answer, record, link):
     """A type that was named, and breaks, with its own shortest message."""
     writer, reader = sides_of(answer)
-    breaks = f"The {writer} side can write this message of {answer['length']} bytes"
+    breaks = f"The {writer} side can write this message of {text(answer['length'])} bytes"
     if answer["is_by_names"]:
         breaks += ". Both sides read the same numbers in it, but their enums give one of them other names."
     else:
-        breaks += f", and the {reader} side doesn't read it whole."
+        breaks += f", and the {reader} side misreads it, refuses it, or loses a value."
     parts = [head_of(answer, record), tag("p", f"{breaks} None that breaks is shorter."), message_of(answer), readings(answer),
              *way_to(answer, record, link)]
     return tag("article", "".join(parts))
@@ -279,7 +299,7 @@ def breaks_of(answers, record, link):
     lines = []
     for it in others:
         call = tag("pre", text(shlex.join([*record["call"], it["type"]])))
-        lines.append(tag("li", f"{code(it['type'])} {tag('span', way_of(it, record), 'dim')}: {it['length']} bytes. {call}"))
+        lines.append(tag("li", f"{code(it['type'])} {tag('span', text(way_of(it, record)), 'dim')}: {text(it['length'])} bytes. {call}"))
     words = "The length is that of the shortest message that breaks. The call below a type prints this message, and the way to what breaks in it."
     shown = [tag("p", words, "dim"), tag("ul", "".join(lines))] if others else []
     return [tag("h2", "Types that break"), *(breaking(it, record, link) for it in answers if "witness" in it), *shown]
@@ -312,7 +332,7 @@ def explained(said):
 
 def by_protoc(record):
     """The call that gates what protoc makes of the files that are refused. It is that of the run: no shorter one has the old side."""
-    name, *words = record["call"]
+    name, *words = (it for it in record["call"] if it != "--no-with-protoc")
     return tag("p", "This call gates what protoc makes of it:") + tag("div", tag("pre", text(shlex.join([name, "--with-protoc", *words]))), "side")
 
 
@@ -340,7 +360,7 @@ def caution_of(caution, record, link):
     place = caution["place"]
     is_file = not re.search(r":\d+:\d+$", place)
     place = code(path_of(place, record) or place) if is_file else place_of(place, record, link[caution["side"]])
-    return tag("li", f"{code(caution['subject'])}, {caution['side']} {place}: {marked(caution['words'])}")
+    return tag("li", f"{code(caution['subject'])}, {text(caution['side'])} {place}: {marked(caution['words'])}")
 
 
 def skip_of(skip):
@@ -348,6 +368,12 @@ def skip_of(skip):
     end = "ended on" if skip["is_over"] else "is skipped until"
     head = tag("span", "refused skip", "verdict refused") if skip["is_over"] else ""
     return tag("li", f"{head} {code(skip['name'])} {end} {text(skip['until'])}: {text(skip['reason'])}")
+
+
+def skipped_of(skipped):
+    """What one release has of what is skipped."""
+    by = f"by the settings until {skipped['until']}" if skipped["until"] else "by the call"
+    return tag("li", f"{code(skipped['name'])}, a {text(skipped['kind'])}, {text(by)}")
 
 
 # The page.
@@ -369,10 +395,12 @@ def summary(record):
     causes = len(record["causes"])
     shown = (tag("li", f"{causes} cause{'s' * (causes > 1)}", "breaks") if causes else "") + shown
     shown += tag("li", f"{len(record['warnings'])} warning{'s' * (len(record['warnings']) > 1)}", "refused") if record["warnings"] else ""
+    skipped = len(record.get("skipped", ()))
+    shown += tag("li", f"{skipped} skipped", "refused") if skipped else ""
     what = f"{code(record['folder'])} against {code(record['revision'])} ({code(record['commit'][:12])})"
     by = "numbers and names" if record["view"] == "names" else "numbers"
     return (tag("h1", f"{text(record['folder'])} {headline(record)}")
-            + tag("p", f"{what}. Enums are compared by {by}. The run's status is {record['status']}.", "dim") + tag("ul", shown, "counts"))
+            + tag("p", f"{what}. Enums are compared by {by}. The run's status is {text(record['status'])}.", "dim") + tag("ul", shown, "counts"))
 
 
 def part_of(record, link):
@@ -388,9 +416,11 @@ def part_of(record, link):
         parts += [missing(it, record) for it in answers["refused"] + answers["removed"]]
     if record["warnings"]:
         parts += [tag("h2", "Warnings"), tag("ul", "".join(caution_of(it, record, link) for it in record["warnings"]))]
+    if record.get("skipped"):
+        parts += [tag("h2", "What isn't gated, since it is skipped"), tag("ul", "".join(map(skipped_of, record["skipped"])))]
     for verdict, head in (("compatible", "Compatible"), ("added", "New types, with nothing to break")):
         if answers[verdict]:
-            names = "".join(tag("li", f"{code(it['type'])} {tag('span', way_of(it, record), 'dim')}") for it in answers[verdict])
+            names = "".join(tag("li", f"{code(it['type'])} {tag('span', text(way_of(it, record)), 'dim')}") for it in answers[verdict])
             parts += [tag("h2", head), tag("ul", names, "types")]
     return "\n".join(parts)
 
@@ -400,22 +430,11 @@ def page_of(record, linked):
     skips = tag("ul", "".join(map(skip_of, record["skips"])))
     parts = [part_of(run, linked(run)) for run in record["runs"]]
     parts += [tag("h2", "Skipped by the settings"), skips] if record["skips"] else []
+    if record.get("settings"):
+        base = f", as it was at {code(record['base'])}" if record.get("base") else ""
+        parts.append(tag("p", f"The settings are those of {code(record['settings'])}{base}.", "dim"))
     title = f"protogate: {record['runs'][0]['folder']} against {', '.join(it['revision'] for it in record['runs'])}"
     return PAGE.substitute(title=text(title), style=STYLE, body="\n".join(parts))
-
-
-def read(path):
-    """Returns the record of a file, and why it is none."""
-    try:
-        with open(path, encoding="utf-8") as file:
-            record = json.load(file)
-    except (OSError, ValueError) as fault:
-        return None, f"{path} is no record of protogate-ci: {fault}"
-    if not isinstance(record, dict) or record.get("format") != "protogate-ci":
-        return None, f"{path} is no record of protogate-ci: write one by `protogate-ci --record {path} REVISION FOLDER`"
-    if record.get("version") != VERSION:
-        return None, f"{path} is a record of version {record.get('version')}, and this reads version {VERSION}: take both scripts of one package"
-    return record, None
 
 
 class Version(argparse.Action):
@@ -431,28 +450,52 @@ class Version(argparse.Action):
 def parsed(words):
     parser = argparse.ArgumentParser(prog=NAME, description=__doc__, formatter_class=argparse.RawDescriptionHelpFormatter, allow_abbrev=False)
     parser.add_argument("record", metavar="FILE", help="what gate.sh --record wrote")
+    parser.add_argument("--output", metavar="FILE", help="write the page to this file, and to no link, in the place of standard output")
     parser.add_argument("--old-link", metavar="URL", help="how a link to a line of the old side goes, with {path} and {line}")
     parser.add_argument("--new-link", metavar="URL", help="the same of the new side")
     parser.add_argument("--version", action=Version, nargs=0, help="print the version of records, and the program's")
     return parser.parse_args(words)
 
 
-def main(words):
-    call = parsed(words)
+def put(page, path):
+    """Writes a page to a file, or prints it."""
+    if path is not None:
+        outputs.write(path, page)
+    elif sys.stdout is None:
+        raise OSError("standard output is closed")
+    else:
+        sys.stdout.buffer.write(page)
+        sys.stdout.buffer.flush()
+
+
+def made(call):
+    """Returns the page of a record, and why there is none."""
     record, fault = read(call.record)
-    if record:
-        def linked(run):
-            known = links(run, os.environ)
-            return {"old": call.old_link or known["old"], "new": call.new_link or known["new"]}
-        try:
-            page = page_of(record, linked).encode()
-        except (LookupError, TypeError, AttributeError, ValueError) as wrong:
-            fault = f"{call.record} is no whole record of version {VERSION} ({type(wrong).__name__}: {wrong}): write it anew"
     if fault:
-        print(f"report: {fault}", file=sys.stderr)
-        return 3
-    sys.stdout.buffer.write(page)
-    return 0
+        return None, fault
+
+    def linked(run):
+        known = links(run, os.environ)
+        return {"old": call.old_link or known["old"], "new": call.new_link or known["new"]}
+    try:
+        return page_of(record, linked).encode(), None
+    except (LookupError, TypeError, AttributeError, ValueError) as wrong:
+        return None, f"{call.record} is no whole record of version {VERSION} ({type(wrong).__name__}: {wrong}): write it anew"
+
+
+def main(words):
+    call, status = parsed(words), 3
+    page, fault = made(call)
+    if not fault:
+        try:
+            put(page, call.output)
+        except Stop as stop:
+            status, fault = 2, str(stop)
+        except OSError as wrong:
+            fault = str(wrong)
+    if fault and sys.stderr:
+        print(f"report: {plain(fault)}", file=sys.stderr)
+    return status if fault else 0
 
 
 if __name__ == "__main__":

@@ -7,7 +7,8 @@ from bisect import bisect_left
 
 from calls import Stop, nearest, plain, side_by_side
 from runs import overviews_of
-from sides import MENDED_BY_PROTOC, is_skipped
+from sides import MENDED_BY_PROTOC
+from walks import is_skipped
 from ways import MOST_TYPES, pair_of
 from witnesses import add_witness, settle_field, settle_readings
 
@@ -36,14 +37,15 @@ class Added:
 
 
 def pairs_of(name, old, new):
-    """Yields the two source files of a type: each old one that declares it with the same new one, and with each new one that didn't declare
-    it before. Where that leaves none, the old one comes with each new one, or with nothing."""
+    """Yields the two source files of a type: each old one that declares it with the new one of the same path, of several paths with each, and
+    with each new one that didn't declare it before. Where that leaves none, the old one comes with each new one, or with nothing."""
     there = new.declared.get(name, [])
     fresh = [it for it in there if it not in old.declared[name]]
     for file in old.declared[name]:
-        found = [it for it in there if it == file or it in fresh]
-        if not found and not new.hides(file):
-            found = there or [None]
+        found = {}
+        for path in old.counterparts.get(file, (file,)):
+            mine = [it for it in there if it == path or it in fresh]
+            found.update(dict.fromkeys(mine or ([] if new.hides(path) else there or [None])))
         yield from ((file, it) for it in found)
 
 
@@ -121,7 +123,7 @@ class Findings:
             types += [it for it in cause["types"] if it not in types][: MOST_TYPES - len(types)]
             return
         for field in cause["fields"]:
-            settle_field(field, self.old, self.new, way)
+            settle_field(field, self.old, self.new, way, (run.old.names, run.new.names))
         shown = [file and side.shown(file) for side, file in zip((self.old, self.new), files)]
         cause.update(direction=way, readings=settle_readings(cause["readings"], way), old_file=shown[0], new_file=shown[1])
         cause["is_by_names"] = cause["case"] == "name" or differs_by_names(cause)
@@ -173,17 +175,33 @@ def refusals_of(side):
         imported = re.search(r"""["'](.+)["']""", text) if code == "E301" else None
         says = [side.protoc_says[it] for it in files if it in side.protoc_says]
         # Of imports that are missing, protoc may bring those of the library.
-        may_help = code in MENDED_BY_PROTOC and not says and (code != "E301" or imported and imported[1].startswith("google/protobuf/"))
+        may_help = code in MENDED_BY_PROTOC and not side.made and (code != "E301" or imported and imported[1].startswith("google/protobuf/"))
         yield {"side": side.name, "code": code, "place": side.shown(place or files[0]), "file": side.shown(file), "text": text, "status": status,
                "texts": files, "nearest": nearest(imported[1], side.files) if imported else None, "protoc": bool(may_help),
                "protoc_says": says[0] if says else None, "advice": None}
+    for file, why in side.needing.items():
+        more = side.protoc_says.get(file) or ("" if side.made else "protoc may make a set without that file")
+        yield unread_refusal(side, file, "import", f"{why} ({more})" if more else why)
+
+
+def told_once(old, new):
+    """Yields the refusals of both sides. A file that isn't proto3 on either side, or needs what is left out on both, is told of the new side
+    alone."""
+    there = {it["file"]: it for it in new if it["code"] in ("E201", "import")}
+    for it in old:
+        again = there.get(it["file"]) if it["code"] in ("E201", "import") else None
+        if again and again["code"] == it["code"]:
+            again["texts"] = list(dict.fromkeys([*again["texts"], *it["texts"]]))
+        else:
+            yield it
+    yield from new
 
 
 def gate_all(old, new, call):
     """Returns the answers, by old file and order of declaration, the causes of what breaks, and the refusals: with names, those that may hide
     a named type."""
     wanted = call.types or [*old.declared, *(it for it in new.declared if it not in old.declared)]
-    wanted = [it for it in wanted if it not in call.skip]
+    wanted = [it for it in wanted if it not in call.skip.types]
     added = Added(old, new)
     found, causes = gated([list(judge(it, old, new, WAYS[: 1 + call.both], added)) for it in wanted], old, new, call)
     answers = [it for of_one in found for it in of_one]
@@ -191,9 +209,9 @@ def gate_all(old, new, call):
     is_hidden = is_hidden or any(new.hides(file) for it in wanted for file in old.declared.get(it, []))
     is_hidden = is_hidden or any(old.hides(file) for it in wanted for file in new.declared.get(it, []))
     is_hidden = is_hidden or call.types and any(side.may_declare(it) for side in (old, new) for it in wanted)
-    refusals = [*refusals_of(old), *refusals_of(new)] if not call.types or is_hidden else []
-    unread = [it for side in (old, new) for it in unread_of(side, call.skip)]
-    return answers, causes, refusals + unread + list(passed_by(old, new, answers, wanted, call.skip))
+    refusals = list(told_once(list(refusals_of(old)), list(refusals_of(new)))) if not call.types or is_hidden else []
+    unread = [it for side in (old, new) for it in unread_of(side, call.skip.paths)]
+    return answers, causes, refusals + unread + list(passed_by(old, new, answers, wanted, call.skip.paths))
 
 
 def unread_refusal(side, path, kind, why):

@@ -36,14 +36,15 @@ class Declarations:
 
     def place(self, file, kind, name, number=None):
         """Returns a name's position in a source file, or the file alone."""
+        if file in self.side.sets:
+            line, column = self.side.made.place(file, kind, name) or (None, None)
+            return f"{file}:{line}:{column}" if line else file
         if file not in self.known:
             self.known[file] = self.places(file)
         line, column = self.known[file].get((kind, name, number), (None, None))
         return f"{file}:{line}:{column}" if line else file
 
     def places(self, file):
-        if file in self.side.sets:
-            return {}
         with open(f"{self.side.folder}/{file}", "rb") as opened:
             return places_of(opened.read(), self.of(file))
 
@@ -91,12 +92,14 @@ def of_enums(pair):
     """Yields cautions on an enum that both sides have."""
     for number, names in pair.old.parts.items():
         now = pair.new.parts.get(number, [])
-        lost = [it for it in names if it not in now]
+        there = {*now}
+        lost = [it for it in names if it not in there]
         if not now and not pair.new.reserves(number):
             yield removed(pair, "value", names[0], number, "value")
         elif now and lost:
             change = f"number {number} was {' and '.join(names)} and is {' and '.join(now)} now"
-            new_name = next((it for it in now if it not in names), now[0])
+            before = {*names}
+            new_name = next((it for it in now if it not in before), now[0])
             yield pair.caution("new", "value", new_name, number, f"{change}. Programs and JSON that go by names take it for another value.")
 
 

@@ -40,7 +40,7 @@ ERRORS = {
     ),
     'E201': (
         'The first statement is not `syntax = "proto3";`.',
-        'Write proto3: protogate reads nothing else.',
+        'Leave the file out (`gate.sh --skip FILE`), and gate the rest: protogate reads proto3 alone. Rewritten as proto3, the file means something else.',
     ),
     'E202': (
         'Unexpected token or end of file.',
@@ -68,7 +68,7 @@ ERRORS = {
     ),
     'E301': (
         'The file was not found.',
-        "Check the path: it counts from the side's folder (`--old-dir`, `--new-dir`, `--dir`). Library files (`google/protobuf/..`) have to be there too; `gate.sh` finds those where they are installed, and other imports in `gate.sh --include FOLDER`.",
+        "Check the path: it counts from the side's folder (`--old-dir`, `--new-dir`, `--dir`), or from an included one (`--old-include`, `--new-include`, `--include`). Library files (`google/protobuf/..`) have to be there too; `gate.sh` finds those where they are installed, and other imports in `gate.sh --include FOLDER`.",
     ),
     'E302': (
         'The file recursively imports itself.',
@@ -196,7 +196,7 @@ ERRORS = {
     ),
     'E702': (
         'A file of the set is not proto3.',
-        'Use proto3 files: protogate reads no others, and leaves out `google/protobuf/descriptor.proto`.',
+        'Make the set of proto3 files alone: protogate reads no others, and leaves out `google/protobuf/descriptor.proto`.',
     ),
     'E703': (
         'A field of the set has an unsupported type or label.',
@@ -245,5 +245,13 @@ ERRORS = {
     'E905': (
         'The argument is not pairs of hexadecimal digits.',
         'Write two digits a byte, without spaces and without `0x`; `-` is no bytes.',
+    ),
+    'E906': (
+        "The list of files isn't UTF-8.",
+        'Save the list as UTF-8.',
+    ),
+    'E907': (
+        'No file is named.',
+        'Name a file of the side, or write one into each line of its list.',
     ),
 }

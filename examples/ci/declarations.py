@@ -1,5 +1,9 @@
 """What a file of a descriptor set declares: fields, values of enums and methods, as far as a change of them is worth a warning."""
 
+import functools
+import itertools
+from bisect import bisect_right
+
 from sets import ENUM, MESSAGE, REPEATED, last, records
 
 
@@ -9,8 +13,16 @@ class Declared:
     def __init__(self, kind, name):
         self.kind, self.name, self.parts, self.reserved = kind, name, {}, []
 
+    @functools.cached_property
+    def ranges(self):
+        """The reserved ranges by their first numbers, each with the highest end of those up to it."""
+        ends = itertools.accumulate((end for _, end in sorted(self.reserved)), max)
+        return [first for first, _ in sorted(self.reserved)], [*ends]
+
     def reserves(self, number):
-        return any(first <= number <= end for first, end in self.reserved)
+        firsts, ends = self.ranges
+        at = bisect_right(firsts, number)
+        return at > 0 and number <= ends[at - 1]
 
 
 class Field:

@@ -1,20 +1,45 @@
 """An error as it is shown on a terminal: its sentence, the line of the source file with a caret below the column, and what to do."""
 
 import functools
+import io
+import itertools
 import re
 import unicodedata
+from array import array
 
+import tokens
 from calls import plain
 
 # So much of a long line is shown before the caret, and after it.
 BEFORE, AFTER = 70, 40
+# A line of more bytes isn't shown, nor kept for each position in it.
+MOST_IN_LINE = 1000
+# Where the lines of each source file end that was looked at.
+ENDS = {}
 
 
-@functools.lru_cache(maxsize=256)
+class Lines:
+    """The lines of a source file, by their index. One that isn't shown is None."""
+
+    def __init__(self, text, ends):
+        self.text, self.ends = text, ends
+
+    def __getitem__(self, index):
+        if index < 0:
+            raise IndexError("lines count from 1")
+        start, end = self.ends[index - 1] if index else 0, self.ends[index]
+        if end - start > MOST_IN_LINE:
+            return None
+        return self.text[start:end].rstrip(b"\r\n").decode("utf-8", "surrogateescape")
+
+
+@functools.lru_cache(maxsize=16)
 def lines_of(path):
     """Returns the lines of a source file. Those of one file are looked at together."""
-    with open(path, encoding="utf-8", errors="surrogateescape", newline="") as source:
-        return [it.rstrip("\r") for it in source.read().split("\n")]
+    text = tokens.read(path)
+    if path not in ENDS:
+        ENDS[path] = array("I", itertools.accumulate(map(len, io.BytesIO(text or b""))))
+    return Lines(text, ENDS[path])
 
 
 def width(words):

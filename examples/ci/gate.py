@@ -1,4 +1,3 @@
-#!/usr/bin/env python3
 """Gates the message types of a folder against a revision of git, with protogate: may the folder be released as it is?
 
 The old side is FOLDER as it was at REVISION, the new side is FOLDER in the work tree. Each message type of the old side is gated,
@@ -8,7 +7,8 @@ or each that is named. One run reports all that breaks, each cause once:
                                    why something breaks, with a message of the type that has the field. For two fields that meet in a
                                    oneof the last four words come twice. The next line says it in a sentence, after two spaces
   refused SIDE CODE POSITION       a file of that side has an error; its types aren't gated
-  refused SIDE KIND PATH           a path can't be gated: a submodule, link, file, folder or name, or one that was missed, or is there twice
+  refused SIDE KIND PATH           a path can't be gated: a submodule, link, file, folder or name, or one that was missed, or is there twice,
+                                   or that needs a file which is skipped and refused, or isn't proto3
   refused E901 TYPE                neither side has the type that is named
   breaks TYPE LENGTH               the length of the shortest message of this type that breaks. If the type is named, the message follows,
                                    as 'witness HEX at OLDFIELD OLDPOSITION NEWFIELD NEWPOSITION'
@@ -17,40 +17,50 @@ or each that is named. One run reports all that breaks, each cause once:
   compatible COUNT types           with --types, and of types that are named, a line 'compatible TYPE' each
   no message types                 both sides were read, and neither declares one
   refused skip NAME DAY            a skip of the settings had that last day
+  skipped NAME                     --skip leaves it out, or a skip of the settings, with 'until DAY' for its last day
 
 With --both a line of what is gated begins with 'forward', or with 'backward' for what old programs read of new messages.
 
 Each file whose name ends in .proto is read, also through links that stay in FOLDER and in submodules that are checked out. What can't be
 read is a line and status 2, unless --skip names it. Imports are found below FOLDER, below each --include, and where the library is installed.
+A name of --skip that is both a type and a path says which: type:NAME or path:NAME.
+A file that is refused, as one with custom options, is gated as the set that protoc makes of it, where protoc is on the path.
 
 The status is the highest of these: 0 compatible or added; 1 breaks; 2 removed or refused; 3 out of memory, or a file, the program or this
-script failed; 4 a wrong call; 127 no protogate that is proved. Advice and warnings go to standard error; where that is a terminal, an error
-is shown with its line. protogate is taken from the path, or from PROTOGATE.
+script failed; 4 a wrong call; 127 no protogate that is proved, or too old a git or Python. Advice and warnings go to standard error; where
+that is a terminal, an error is shown with its line. protogate is the one that PROTOGATE names, else the one beside an installed
+protogate-ci, else that of the path.
 
-What a call leaves out is taken from protogate.ini at the top of the repository. Several releases there are gated one after another.
+What a call leaves out is taken from protogate.ini at the top of the repository, as it was at REVISION or at the revision that --base names: a
+change doesn't decide about itself. Several releases there are gated one after another.
 """
 
 import argparse
 import json
 import os
 import sys
-import tempfile
 import traceback
 
+import calls
+import outputs
 from answers import gate_all
+from bases import base_of, difference, has_settings
 from calls import Stop, called, did_you_mean, look_for_program, plain, side_by_side
 from cautions import cautions_of
+from counterparts import counterparts
+from endings import Ended, end_by_signal, on_signals, room as new_room
+from records import VERSION
+from repositories import top_of_work_tree
 from roots import Root, Roots, library, may_import_library
-from settings import FILE, Settings, completed
+from settings import MOST_SECONDS, TIME_LIMIT, VIEWS, completed, seconds
 from sides import Side
-from trees import Place, advice_on_branch, commit_of, lay_out, lines_of, no_folder, of_work_tree, top_of_work_tree
+from skips import paths_of
+from trees import Place, advice_on_branch, commit_of, lay_out, no_folder, of_work_tree
 from walks import Walk
-from wording import advise, print_all, print_skips, say
+from wording import advise, print_all, print_skips, say, warn_of_settings
 
 # As users call this.
 NAME = os.environ.get("PROTOGATE_CI_NAME") or "gate.sh"
-# Of the record. A change of what a key means makes it another one.
-VERSION = 2
 
 
 class Parser(argparse.ArgumentParser):
@@ -70,6 +80,22 @@ class Version(argparse.Action):
         sys.exit(0)
 
 
+def whole_seconds(said):
+    """Returns the seconds that an option says."""
+    try:
+        return seconds(said)
+    except ValueError as fault:
+        raise argparse.ArgumentTypeError(f"it is {fault}") from None
+
+
+def add_settings(parser):
+    """Adds the options that say where the settings are from."""
+    ways = parser.add_mutually_exclusive_group()
+    ways.add_argument("--base", metavar="REVISION", help="take protogate.ini as it was there: in a pull request, at the target branch")
+    ways.add_argument("--settings", metavar="FILE", help="take the settings of this file, for which the caller vouches")
+    ways.add_argument("--no-settings", action="store_true", help="take none")
+
+
 def parser_of():
     made = Parser(prog=NAME, description=__doc__, formatter_class=argparse.RawDescriptionHelpFormatter, allow_abbrev=False)
     made.add_argument("revision", metavar="REVISION", nargs="?", help="a tag, a branch or a commit")
@@ -77,11 +103,16 @@ def parser_of():
     made.add_argument("types", metavar="TYPE", nargs="*", default=[], help="the full name of a message type")
     made.add_argument("--include", metavar="FOLDER", action="append", default=[],
                       help="look for imports in this folder of the repository too, on the old side as it was at REVISION")
-    made.add_argument("--skip", metavar="NAME", action="append", default=[], help="leave out a type, or a file or a folder below FOLDER")
+    made.add_argument("--skip", metavar="NAME", action="append", default=[],
+                      help="leave out a type, or a file or a folder below FOLDER; type:NAME or path:NAME says which")
+    add_settings(made)
     made.add_argument("--types", dest="names_types", action="store_true", help="name each compatible type, in the place of a count")
     made.add_argument("--both", action=argparse.BooleanOptionalAction, help="ask for both directions, or forward alone")
-    made.add_argument("--view", choices=["numbers", "names"], help="compare enums by numbers alone, or by names too")
-    made.add_argument("--with-protoc", action=argparse.BooleanOptionalAction, help="where a file is refused, gate the set that protoc makes of it")
+    made.add_argument("--view", choices=VIEWS, help="compare enums by numbers alone, or by names too")
+    made.add_argument("--with-protoc", action=argparse.BooleanOptionalAction,
+                      help="where a file is refused, gate the set that protoc makes of it, or don't; by default where protoc is on the path")
+    made.add_argument("--time-limit", metavar="SECONDS", type=whole_seconds,
+                      help=f"end each program that runs longer, with status 3: 1 to {MOST_SECONDS}, by default {TIME_LIMIT}")
     made.add_argument("--github", action="store_true", help="print annotations for GitHub, too")
     made.add_argument("--record", metavar="FILE", help="write all that was found as JSON, for a report")
     made.add_argument("--version", action=Version, nargs=0, help="print the version of records, and the program's")
@@ -89,32 +120,40 @@ def parser_of():
 
 
 def parsed(words):
-    """Returns what the words call for, completed by the settings of the repository."""
+    """Returns what the words call for, completed by the settings of the base revision."""
     parser = parser_of()
     call = parser.parse_intermixed_args(words)
-    top = top_of_work_tree()
-    path = os.path.join(top, FILE)
-    if not os.path.lexists(path) and any(it.startswith("S ") for it in lines_of("ls-files", "-t", "-z", "--", FILE, at=("-C", top))):
-        raise Stop(4, f"{FILE} isn't in this sparse checkout: add it to that")
-    missing = completed(call, Settings(path), top)
+    if call.revision is None and call.base is None and call.settings is None and not call.no_settings:
+        parser.error("name REVISION and FOLDER, or where the settings are from that name them: --base REVISION (in a pull request: the target "
+                     "branch) or --settings FILE")
+    top, call.base_settings = top_of_work_tree(), base_of(call)
+    missing = completed(call, call.base_settings.settings(), top)
     if missing:
         parser.error(missing)
-    call.skip = [it.rstrip("/") for it in call.skip]
+    if call.record is not None:
+        outputs.place_of(call.record)
+    call.skip.refuse(call.types)
+    calls.LIMIT.seconds = call.time_limit
+    warn_of_settings(difference(call.base_settings, top), call.github)
     return call
 
 
-def words_of(call):
-    """The words that call for the same answers, without what else is printed or written of them."""
-    options = ["--both"] * call.both + (["--view", call.view] if call.view else []) + ["--with-protoc"] * call.with_protoc
+def words_of(call, commit):
+    """The words that call for the same answers, without what else is printed or written of them. They say what the settings said, so the
+    revision's own settings have no say."""
+    options = ["--both"] * call.both + (["--view", call.view] if call.view else [])
+    options += {True: ["--with-protoc"], False: ["--no-with-protoc"], None: []}[call.with_protoc]
+    options += ["--time-limit", str(call.time_limit)] * (call.time_limit != TIME_LIMIT)
     includes = [word for it in call.include for word in ("--include", it)]
-    skipped = [word for it in call.skip for word in ("--skip", it)]
-    return [NAME, *options, *includes, *skipped, call.revision, call.folder, *call.types]
+    skipped = [word for it in call.skip.skips for word in ("--skip", it.said)]
+    alone = ["--no-settings"] * has_settings(commit)
+    return [NAME, *options, *includes, *skipped, *alone, call.revision, call.folder, *call.types]
 
 
-def side_of(name, places, laid, library_root, room):
+def side_of(name, places, laid, library_root, room, skipped):
     """Returns a side: its folder, the first of these, with those where its imports are looked for too."""
     there = [(place, it) for place, it in zip(places, laid) if it]
-    walks = [Walk(it.folder, place.folder, it.files_outside) for place, it in there]
+    walks = [Walk(it.folder, place.folder, it.files_outside, skipped if it is laid[0] else ()) for place, it in there]
     roots = [Root(it.folder, walk, place.top, it.unread) for (place, it), walk in zip(there, walks)]
     if library_root and may_import_library(roots):
         roots.append(library_root)
@@ -148,8 +187,8 @@ def sides_of(call, commit, places, room):
 
     def made(name):
         laid = laid_out(call, commit, places, is_here, room) if name == "old" else here(places, is_here)
-        side = side_of(name, places, laid, library_root, room)
-        side.read(call.skip, room if call.with_protoc else None)
+        side = side_of(name, places, laid, library_root, room, call.skip.paths)
+        side.read(call.skip.paths, room, call.with_protoc)
         return side
 
     return side_by_side(made, ["old", "new"])
@@ -166,10 +205,13 @@ def say_what_is_passed_over(sides, said):
             advise(words)
 
 
-def names_of(sides):
-    """Returns what a skip may name: types, and paths, also as they are printed."""
-    names = {name for it in sides for name in (*it.declared, *it.files, *it.unread, *it.walk.folders)} - {""}
-    return names.union(map(plain, names))
+def say_what_protoc_made(sides, said):
+    """Says how many source files are gated by protoc's sets, unless it was said of another release."""
+    count = len({path for it in sides for path in it.sets})
+    words = f"{count} source file{'s are' if count > 1 else ' is'} gated by the set that protoc makes of {'them' if count > 1 else 'it'}"
+    if count and words not in said:
+        said.add(words)
+        advise(words)
 
 
 def recorded(call, room):
@@ -181,8 +223,11 @@ def recorded(call, room):
     folder = places[0].folder
     if not any(it.files or it.unread for it in sides):
         raise Stop(4, f"{plain(folder)} has no file whose name ends in .proto, at {plain(call.revision)} or now")
+    old.counterparts = counterparts(old.walk, new.walk)
     say_what_is_passed_over(sides, call.said)
-    call.known.update(names_of(sides))
+    say_what_protoc_made(sides, call.said)
+    call.known.update(paths_of(sides).union(*(it.declared for it in sides)))
+    skipped = call.skip.settle(sides, call.types)
     answers, causes, refusals = gate_all(old, new, call)
     status = max([it["status"] for it in answers + refusals], default=0)
     if any(it["verdict"] in ("breaks", "removed") for it in answers):
@@ -191,30 +236,30 @@ def recorded(call, room):
             it.update({"advice": advice} if advice and it["verdict"] in ("breaks", "removed") else {})
     call.excerpts = {(it.name, place): line for it in sides for place, line in it.excerpts.items()}
     cautions = cautions_of(old, new, answers, call.types)
-    is_empty = not (old.declared or new.declared or refusals or call.skip or call.types)
-    return {"call": words_of(call), "revision": call.revision, "commit": commit, "folder": folder, "prefix": places[0].top, "both": call.both,
-            "view": call.view or "numbers", "status": status, "causes": causes, "answers": answers, "refusals": refusals, "is_empty": is_empty,
-            "warnings": cautions, "outside": {**old.outside, **new.outside}}
+    is_empty = not (old.declared or new.declared or refusals or call.skip.skips or call.types)
+    return {"call": words_of(call, commit), "revision": call.revision, "commit": commit, "folder": folder, "prefix": places[0].top,
+            "both": call.both, "view": call.view or "numbers", "status": status, "causes": causes, "answers": answers, "refusals": refusals,
+            "is_empty": is_empty, "by_protoc": {it.name: sorted(it.sets) for it in sides}, "warnings": cautions,
+            "outside": {**old.outside, **new.outside}, "skipped": skipped}
 
 
 def advise_on_skips(call):
     """Says which names that are left out are no names, in no release."""
-    settled = {it["name"]: f"{FILE}:{it['line']}: the skip of {it['name']}" for it in call.skips}
-    for it in call.skip:
-        if it not in call.known:
-            advise(f"{settled.get(it, f'--skip {it}')} names nothing{did_you_mean(it, sorted(call.known))}")
+    for it in call.skip.skips:
+        if it.said not in call.skip.taken:
+            advise(f"{it.shown} names nothing{did_you_mean(it.name, sorted(call.known))}")
 
 
 def gate_releases(call):
     """Gates against each release, prints what was found, and returns the record."""
-    record = {"format": "protogate-ci", "version": VERSION, "status": 2 * any(it["is_over"] for it in call.skips), "skips": call.skips,
-              "runs": []}
+    record = {"format": "protogate-ci", "version": VERSION, "status": 2 * any(it["is_over"] for it in call.skips),
+              "base": call.base_settings.revision, "settings": call.base_settings.name, "skips": call.skips, "runs": []}
     call.known, call.said = set(), set()
-    print_skips(call.skips, call.github)
+    print_skips(call.skips, call.base_settings.name, call.github)
     for call.revision in call.releases:
         if len(call.releases) > 1:
             say(f"== {call.revision} ==")
-        with tempfile.TemporaryDirectory(prefix="protogate-ci-") as room:
+        with new_room() as room:
             record["runs"].append(recorded(call, room))
         print_all(record["runs"][-1], call.github, call.names_types or bool(call.types), call.excerpts if sys.stderr.isatty() else None)
         sys.stdout.flush()
@@ -227,11 +272,13 @@ def main(words):
     sys.stdout.reconfigure(errors="surrogateescape")
     sys.stderr.reconfigure(errors="backslashreplace")
     try:
+        on_signals()
         call = parsed(words)
         record = gate_releases(call)
         if call.record:
-            with open(call.record, "w", encoding="utf-8") as file:
-                json.dump(record, file, indent=1)
+            outputs.write(call.record, json.dumps(record, indent=1).encode())
+    except Ended:
+        end_by_signal()
     except Stop as stop:
         advise(stop)
         return stop.status
@@ -240,11 +287,7 @@ def main(words):
         return 3
     except Exception:  # pylint: disable=broad-except
         # (Python itself would end with 1, which says that a type breaks)
-        traceback.print_exc()
+        advise(traceback.format_exc().rstrip())
         advise("a fault of this script: nothing is said of what wasn't printed")
         return 3
     return record["status"]
-
-
-if __name__ == "__main__":
-    sys.exit(main(sys.argv[1:]))

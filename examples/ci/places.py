@@ -3,49 +3,63 @@
 It goes by tokens alone, so what it found is taken only where that is just what the descriptor declares (`places_of`).
 """
 
-import re
+import io
+import itertools
+from array import array
 from bisect import bisect_right
 
-# Between tokens there are spaces, comments and, before the first one, a byte order mark, whose bytes count as columns.
-BETWEEN = rb"[ \t\r\n\v\f]+|\A\xef\xbb\xbf|//[^\n]*|/\*.*?\*/"
-TOKEN = re.compile(BETWEEN + rb"""|(?P<token>"(?:\\.|[^"\\\n])*"|'(?:\\.|[^'\\\n])*'|[A-Za-z_]\w*|\d[\w.]*|.)""", re.S)
+from tokens import tokens_in
 
 
 class Reader:
     """Reads the tokens of a source file, and notes where each declared name is: by kind, full name and number, a line and a column."""
 
     def __init__(self, text):
-        self.tokens = [(it["token"], it.start("token")) for it in TOKEN.finditer(text) if it["token"]]
-        self.lines = [0, *(it.end() for it in re.finditer(b"\n", text))]
-        self.at, self.found = 0, []
+        self.tokens = tokens_in(text)
+        self.lines = array("I", itertools.accumulate(map(len, io.BytesIO(text)), initial=0))
+        self.now, self.found = next(self.tokens, None), []
 
     def take(self):
-        token = self.tokens[self.at]
-        self.at += 1
+        if self.now is None:
+            raise LookupError("the file ends too early")
+        token, self.now = self.now, next(self.tokens, None)
         return token
 
     def word(self):
-        return self.tokens[self.at][0]
+        return self.now[0] if self.now else b""
 
     def note(self, kind, name, number, offset):
         line = bisect_right(self.lines, offset)
         self.found.append(((kind, name, number), (line, offset - self.lines[line - 1] + 1)))
 
-    def statement(self):
-        """Takes the tokens of a statement up to its end, and returns them."""
-        first = self.at
-        while self.take()[0] != b";":
+    def statement(self, *ends):
+        """Takes the tokens up to the first of these ends, or that of the statement, and yields them. What is in braces, as the value of an
+        option, has no end."""
+        depth = 0
+        while depth or self.word() not in (b";", *ends):
+            token = self.take()
+            depth += (token[0] == b"{") - (token[0] == b"}")
+            yield token
+        yield self.take()
+
+    def pass_over(self):
+        """Takes a statement."""
+        for _ in self.statement():
             pass
-        return self.tokens[first : self.at]
 
     def numbered(self, kind, scope):
         """Takes a field or a value of an enum: its name is before the first `=`, its number after it."""
-        tokens = self.statement()
-        at = next(index for index, (token, _) in enumerate(tokens) if token == b"=")
-        name, offset = tokens[at - 1]
-        sign, digits = (-1, tokens[at + 2][0]) if tokens[at + 1][0] == b"-" else (1, tokens[at + 1][0])
+        name, offset = before = b"", 0
+        for before in self.statement(b"="):
+            if before[0] != b"=":
+                name, offset = before
+        if before[0] != b"=":
+            raise LookupError("there is no number")
+        digits, _ = self.take()
+        sign, digits = (-1, self.take()[0]) if digits == b"-" else (1, digits)
         base = 16 if digits[:2].lower() == b"0x" else 8 if digits[:1] == b"0" else 10
         self.note(kind, f"{scope}{name.decode()}", sign * int(digits, base), offset)
+        self.pass_over()
 
     def block(self, scope, inside):
         """Takes what is between braces, by a reader of its statements."""
@@ -61,6 +75,12 @@ class Reader:
         self.note(kind, f"{scope}{name.decode()}", None, offset)
         self.block(f"{scope}{name.decode()}.", inside)
 
+    def extension(self):
+        """Takes what a set made by protoc may have, and which declares nothing that is compared."""
+        while self.word() != b"{":
+            self.take()
+        self.block("", lambda _: self.pass_over())
+
     def part(self, scope):
         """Takes a statement of a message."""
         word = self.word()
@@ -72,29 +92,31 @@ class Reader:
             self.take()
             self.take()
             self.block(scope, self.member)
+        elif word == b"extend":
+            self.extension()
         elif word in (b"option", b"reserved", b";"):
-            self.statement()
+            self.pass_over()
         else:
             self.numbered("field", scope)
 
     def member(self, scope):
         """Takes a statement of a oneof, in which words that begin another statement of a message are types."""
         if self.word() in (b"option", b";"):
-            self.statement()
+            self.pass_over()
         else:
             self.numbered("field", scope)
 
     def value(self, scope):
         """Takes a statement of an enum."""
         if self.word() in (b"option", b"reserved", b";"):
-            self.statement()
+            self.pass_over()
         else:
             self.numbered("value", scope)
 
     def method(self, scope):
         """Takes a statement of a service."""
         if self.word() != b"rpc":
-            self.statement()
+            self.pass_over()
             return
         self.take()
         name, offset = self.take()
@@ -102,7 +124,7 @@ class Reader:
         while self.word() not in (b";", b"{"):
             self.take()
         if self.word() == b"{":
-            self.block(scope, lambda _: self.statement())
+            self.block(scope, lambda _: self.pass_over())
         else:
             self.take()
 
@@ -112,14 +134,17 @@ class Reader:
         if word in (b"message", b"enum", b"service"):
             inside = {b"message": self.part, b"enum": self.value, b"service": self.method}[word]
             self.named(word.decode(), scope, inside)
+        elif word == b"extend":
+            self.extension()
+        elif word == b"package":
+            scope = b"".join(it for it, _ in list(self.statement())[1:-1]).decode() + "."
         else:
-            tokens = self.statement()
-            scope = b"".join(it for it, _ in tokens[1:-1]).decode() + "." if word == b"package" else scope
+            self.pass_over()
         return scope
 
     def read(self):
         scope = ""
-        while self.at < len(self.tokens):
+        while self.now:
             scope = self.top(scope)
         return self.found
 
@@ -141,6 +166,6 @@ def places_of(text, declared):
     """Returns the line and column of each name that a source file declares; none at all where it isn't read as its descriptor says."""
     try:
         found = Reader(text).read()
-    except (LookupError, StopIteration, ValueError):
+    except (LookupError, ValueError, RecursionError):
         return {}
     return dict(found) if sorted(map(str, wanted(declared))) == sorted(str(key) for key, _ in found) else {}

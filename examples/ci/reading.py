@@ -1,17 +1,19 @@
 """How the source files of a side are compiled: all of them in one run, as far as they go together, and singly what is refused."""
 
-import itertools
 import os
 import re
+import stat
 
+import tokens
 from calls import Stop, plain, protogate, side_by_side
-from places import TOKEN
 from sets import files_in
 
 # As many files the program links at most.
 MOST_FILES = 1024
 # As many files that import one which is refused are compiled by themselves, so that their own faults are told too.
 MOST_ALONE = 100
+# As many bytes of paths are in the words of one run, and in one path: the system takes no more.
+MOST_IN_WORDS, MOST_IN_PATH = 500000, 4000
 
 
 def compiled(folder, files):
@@ -37,20 +39,44 @@ def files_of_set(made, files, maker):
     return found
 
 
-def imports_of(path):
-    """Returns the paths that a source file imports, by its tokens. Where this goes wrong, a file is compiled once more."""
+def leads_out(folder, path):
+    """Returns whether the program must not open what a path of an import leads to: it would leave the folder, or wait for what isn't a file.
+    A path that is longer than the system takes leads nowhere."""
+    if path[:1] == b"/" or b".." in path.split(b"/") or b"\0" in path or len(path) > MOST_IN_PATH:
+        return True
     try:
-        with open(path, "rb") as text:
-            tokens = [it["token"] for it in TOKEN.finditer(text.read()) if it["token"]]
+        mode = os.stat(os.path.join(os.fsencode(folder), path)).st_mode
     except OSError:
-        return []
-    found = []
-    for at, token in enumerate(tokens):
-        if token == b"import":
-            at += 2 if tokens[at + 1 : at + 2] in ([b"public"], [b"weak"]) else 1
-            parts = itertools.takewhile(lambda it: it[:1] in (b'"', b"'"), tokens[at:])
-            found.append(os.fsdecode(b"".join(it[1:-1] for it in parts)))
-    return [it for it in found if it]
+        return False
+    return not stat.S_ISREG(mode) and not stat.S_ISDIR(mode)
+
+
+def distinct(imports):
+    """Yields each path once, with its offset: as many as the program opens for one file."""
+    seen = set()
+    for path, offset in imports:
+        if len(seen) > MOST_FILES:
+            return
+        if path not in seen:
+            seen.add(path)
+            yield path, offset
+
+
+def position_of(text, offset):
+    """Returns the line and the column of an offset."""
+    return f"{text.count(10, 0, offset) + 1}:{offset - text.rfind(10, 0, offset)}"
+
+
+def groups_of(files):
+    """Returns source files in groups, of which one run takes each."""
+    groups, size = [[]], 0
+    for file in files:
+        size += len(os.fsencode(file))
+        if len(groups[-1]) == MOST_FILES or size > MOST_IN_WORDS and groups[-1]:
+            groups.append([])
+            size = len(os.fsencode(file))
+        groups[-1].append(file)
+    return groups if files else []
 
 
 def named_in(refusal):
@@ -62,13 +88,17 @@ def named_in(refusal):
 
 class Reading:
     """Reads source files below a folder. In the end each is known, as the set says of it, or refused, with the line and the status. What
-    they import is known too."""
+    they import is known too. `importing` has the files that import each path, by their tokens: where these are read otherwise than by the
+    program, a file is compiled once more."""
 
     def __init__(self, folder):
-        self.folder, self.known, self.refused, self.imports = folder, {}, {}, {}
+        self.folder, self.known, self.refused, self.importing = folder, {}, {}, {}
+        # The files with an import that leads out, or that import such a file: no other program reads them either.
+        self.leading_out = set()
 
     def read(self, files):
-        pending = [files[at : at + MOST_FILES] for at in range(0, len(files), MOST_FILES)]
+        self.read_imports(files)
+        pending = groups_of([it for it in files if it not in self.refused])
         while pending:
             said = side_by_side(lambda it: compiled(self.folder, it), pending)
             pending = [it for group, answer in zip(pending, said) for it in self.after(group, *answer)]
@@ -98,19 +128,33 @@ class Reading:
             self.refused[it] = alone, status
         return {*out, culprit}
 
+    def read_imports(self, files):
+        """Notes what the files import, and what that does, before the program opens any of it. An import that leads out of the folder isn't
+        found, whatever is there: it is refused, with all that imports its file."""
+        pending, seen, faults = list(files), set(files), {}
+        for path in pending:
+            text = tokens.read(os.path.join(self.folder, path)) or b""
+            for target, offset in distinct(tokens.imports_in(text)):
+                if leads_out(self.folder, target):
+                    faults.setdefault(path, f"refused E301 {path}:{position_of(text, offset)}")
+                    continue
+                target = os.fsdecode(target)
+                self.importing.setdefault(target, []).append(path)
+                pending += [target] * (target not in seen)
+                seen.add(target)
+        pending = list(faults)
+        for path in pending:
+            following = [it for it in self.importing.get(path, []) if it not in faults]
+            faults.update((it, faults[path]) for it in following)
+            pending += following
+        self.leading_out.update(faults)
+        self.refused.update((it, (faults[it], 2)) for it in files if it in faults)
+
     def importers(self, group, culprit):
         """Returns the files of a group that import a file, by way of others too."""
-        importing, pending, seen = {}, list(group), set(group)
-        for path in pending:
-            if path not in self.imports:
-                self.imports[path] = imports_of(os.path.join(self.folder, path))
-            for it in self.imports[path]:
-                importing.setdefault(it, []).append(path)
-            pending += [it for it in self.imports[path] if it not in seen]
-            seen.update(self.imports[path])
         found, pending = set(), [culprit]
         for path in pending:
-            following = [it for it in importing.get(path, []) if it not in found]
+            following = [it for it in self.importing.get(path, []) if it not in found]
             found.update(following)
             pending += following
         return [it for it in group if it in found]

@@ -1,7 +1,7 @@
 """Which source files `protogate gate-all` takes in one run, and what it says of their types.
 
 All files of both sides are one run, where they go together. Where a side declares a name twice, or a side has too many files or types, there
-are several runs; each has what its files import. What protoc made of a file is a whole side.
+are several runs; each has what its files import. What protoc made of files is one set, a side without source files.
 """
 
 import os
@@ -10,7 +10,7 @@ from concurrent.futures import ThreadPoolExecutor
 
 from calls import Stop, protogate
 from cuts import fields_in
-from reading import MOST_FILES
+from reading import MOST_FILES, MOST_IN_WORDS
 from ways import Ways, pair_of
 
 # As many message types the program links at most.
@@ -18,8 +18,6 @@ MOST_TYPES = 4096
 # What a cause says before the fields.
 CAUSE = re.compile(r"cause (\S+) (\d+) ([0-9a-f]+) (\d+) (.+)", re.S)
 REFUSAL = re.compile(r"(old |new )?E\d{3}( .+)?", re.S)
-# A file of protoc's sets that the program passes over.
-LANGUAGE = "google/protobuf/descriptor.proto"
 
 
 class Half:
@@ -27,17 +25,17 @@ class Half:
 
     def __init__(self, side):
         self.side, self.named, self.files, self.names, self.is_set = side, [], {}, {}, False
+        # How many bytes the paths of the named files have.
+        self.size = 0
 
     def more_for(self, file):
         """Returns what a source file brings with it, or nothing where it doesn't go together with what is here."""
-        if file in self.side.sets or self.is_set:
-            return None if self.named else {path: it for path, it in self.side.in_sets[file].items() if path != LANGUAGE}
         if not self.may_take(file):
             return None
-        found, pending = {}, [file]
+        found, pending, known = {}, [file], self.known_with(file)
         for path in pending:
             if path not in found and path not in self.files:
-                found[path] = self.side.known[path]
+                found[path] = known[path]
                 pending += found[path].imports
         names = [name for it in found.values() for name in it.types]
         is_free = len(set(names)) == len(names) and self.names.keys().isdisjoint(names)
@@ -46,12 +44,21 @@ class Half:
 
     def may_take(self, file):
         """Returns whether a source file goes together with what is here, as far as it shows without what it imports."""
+        if self.named and (file in self.side.sets) != self.is_set:
+            return False
         is_new = self.named and file not in self.files
-        return not is_new or len(self.files) < MOST_FILES and self.names.keys().isdisjoint(self.side.known[file].types)
+        fits = not self.named or self.size + len(os.fsencode(file)) <= MOST_IN_WORDS
+        is_free = not is_new or len(self.files) < MOST_FILES and self.names.keys().isdisjoint(self.known_with(file)[file].types)
+        return fits and is_free
+
+    def known_with(self, file):
+        """Returns the files among which the program finds what a source file needs, by path: those of protoc's sets, or source files."""
+        return self.side.made.files if file in self.side.sets else self.side.known
 
     def add(self, file, more):
         if file not in self.named:
             self.named.append(file)
+            self.size += len(os.fsencode(file))
         self.is_set = file in self.side.sets
         self.files.update(more)
         self.names.update((name, path) for path, it in more.items() for name in it.types)
@@ -59,7 +66,7 @@ class Half:
     def words(self, name):
         """The words of a call that name this side."""
         if self.is_set:
-            folder, file = os.path.split(self.side.sets[self.named[0]])
+            folder, file = os.path.split(self.side.made.written(self.files.values()))
             return [f"--{name}-dir={folder}", f"--{name}={file}"]
         return [f"--{name}-dir={self.side.folder}", *(f"--{name}={it}" for it in self.named)]
 
@@ -97,7 +104,7 @@ class Overview:
     def take_cause(self, line):
         """Takes the line of a cause, and returns whether it is one."""
         found = CAUSE.fullmatch(line)
-        fields = fields_in(found[5], *self.paths, 1 + (found[1] == "oneof")) if found else None
+        fields = fields_in(found[5], *self.paths, 1 + (found[1] == "oneof"), found[1] == "oneof") if found else None
         if fields:
             case, length, witness, number, _ = found.groups()
             self.causes.append({"case": case, "number": number, "length": int(length), "witness": witness, "fields": fields, "readings": {}})

@@ -13,8 +13,8 @@ import sys
 
 # How long a run takes at least that is said to be at work, in seconds.
 AT_WORK = 1
-# The statuses of a call that may have been refused.
-REFUSED = (2, 3)
+# The statuses of a call that may have been refused: 4 is also that of help.
+REFUSED = (2, 3, 4)
 # Passed on to the program: what a caller sends to it by its number.
 PASSED_ON = (signal.SIGTERM, signal.SIGHUP, signal.SIGCONT)
 
@@ -28,42 +28,53 @@ def state_of(process):
         return ""
 
 
-def handle(number, does):
-    """Does this at a signal, unless the caller ignores it, as below nohup."""
-    if signal.getsignal(number) is not signal.SIG_IGN:
-        signal.signal(number, does)
+def say_at_work(process, call):
+    """Says that the run is at work, unless it has ended or is stopped."""
+    if state_of(process) not in ("", "T", "t", "X", "Z"):
+        print(f"protogate: still at work: {' '.join(call[1:2])}", file=sys.stderr, flush=True)
+
+
+def pass_on(process, number):
+    try:
+        os.kill(process, number)
+    except ProcessLookupError:
+        pass
+
+
+def end_of(process, call, awaited):
+    """Returns the status of the program as the system tells it. It is stopped, goes on and ends with this process. Ctrl-C reaches both by
+    itself."""
+    signal.alarm(AT_WORK)
+    while True:
+        number = signal.sigwait(awaited)
+        if number == signal.SIGALRM:
+            say_at_work(process, call)
+        elif number in PASSED_ON:
+            pass_on(process, number)
+        found, status = os.waitpid(process, os.WUNTRACED | os.WNOHANG)
+        if found:
+            signal.alarm(0)
+            if not os.WIFSTOPPED(status):
+                return status
+            # (a terminal stops both by itself)
+            if os.WSTOPSIG(status) == signal.SIGSTOP:
+                os.kill(os.getpid(), signal.SIGSTOP)
 
 
 def status_of(call):
-    """Runs the program, and returns its status as the system tells it. It is stopped, goes on and ends with this process. Ctrl-C reaches
-    both by itself."""
-    handle(signal.SIGINT, lambda *_: None)
-    # (with each file that the caller has open)
-    process = os.posix_spawn(call[0], call, os.environ)
-
-    def pass_on(number, _):
-        try:
-            os.kill(process, number)
-        except ProcessLookupError:
-            pass
-
-    def say_at_work(*_):
-        """Says that the run is at work, unless it has ended or is stopped."""
-        if state_of(process) not in ("", "T", "t", "X", "Z"):
-            print(f"protogate: still at work: {' '.join(call[1:2])}", file=sys.stderr, flush=True)
-
-    for it in PASSED_ON:
-        handle(it, pass_on)
-    signal.signal(signal.SIGALRM, say_at_work)
-    signal.alarm(AT_WORK)
-    while True:
-        _, status = os.waitpid(process, os.WUNTRACED)
-        signal.alarm(0)
-        if not os.WIFSTOPPED(status):
-            return status
-        # (a terminal stops both by itself)
-        if os.WSTOPSIG(status) == signal.SIGSTOP:
-            os.kill(os.getpid(), signal.SIGSTOP)
+    """Runs the program, and returns its status. Signals are held back until they are asked for, so none comes before a wait and ends nothing;
+    those that the caller ignores, as below nohup, are ignored."""
+    heeded = [it for it in (signal.SIGINT, *PASSED_ON) if signal.getsignal(it) is not signal.SIG_IGN]
+    awaited = {*heeded, signal.SIGALRM, signal.SIGCHLD}
+    for it in awaited:
+        signal.signal(it, lambda *_: None)
+    before = signal.pthread_sigmask(signal.SIG_BLOCK, awaited)
+    try:
+        # (with each file that the caller has open)
+        process = os.posix_spawn(call[0], call, os.environ, setsigmask=before)
+        return end_of(process, call, awaited)
+    finally:
+        signal.pthread_sigmask(signal.SIG_SETMASK, before)
 
 
 def end_as(status):

@@ -1,11 +1,13 @@
 """What the files of a descriptor set are: what each imports, and which message types it declares. It reads the sets that protogate and
-protoc write."""
+protoc write, and pares those of protoc down to what the gate needs."""
 
 import functools
 import os
 import re
 
 REPEATED, MESSAGE, ENUM = 3, 11, 14
+# Of a file: its source info, and what the gate needs: path, package, messages, enums, options and syntax.
+SOURCE_INFO, NEEDED = 9, (1, 2, 4, 5, 8, 12)
 # How the field of a message type begins that holds a message, as protoc and protogate write it: its name, number, label and type, and the
 # length of that type's name, which begins with a dot.
 HOLDS = re.compile(rb"\n[\x00-\x7f]\w+\x18([\x80-\xff]*[\x00-\x7f]) [\x01-\x03]\(\x0b2([\x02-\x7f])\.", re.S)
@@ -119,3 +121,70 @@ def fields_of(message):
         elif kind == 7:
             options = value
     return held, key if options and last(options, 7, 0) else None
+
+
+def joined(numbered):
+    """Returns the bytes of records, each a number with bytes or with an unsigned number."""
+    return b"".join(written(number << 3 | 2) + written(len(it)) + it if isinstance(it, bytes) else written(number << 3) + written(it)
+                    for number, it in numbered)
+
+
+def written(number):
+    """Returns the bytes of a varint."""
+    made = bytearray()
+    while number > 127:
+        made.append(number & 127 | 128)
+        number >>= 7
+    return bytes([*made, number])
+
+
+def split(descriptor):
+    """Returns the descriptor of a file without its source info, and that."""
+    parts = list(records(descriptor))
+    return joined(it for it in parts if it[0] != SOURCE_INFO), b"".join(it for number, it in parts if number == SOURCE_INFO)
+
+
+def is_proto3(descriptor):
+    return last(descriptor, 12) == b"proto3"
+
+
+def held_in(message, scope):
+    """Yields the full names of a message type, of what is declared in it, and of each type that their fields hold, with such a field's name
+    where there is one."""
+    parts = list(records(message))
+    name = scope + last(message, 1).decode()
+    yield name, None
+    yield from ((f"{name}.{last(it, 1).decode()}", None) for number, it in parts if number == 4)
+    yield from ((last(it, 6).decode().lstrip("."), f"{name}.{last(it, 1).decode()}") for number, it in parts if number == 2 and last(it, 6))
+    yield from (it for number, inner in parts if number == 3 for it in held_in(inner, f"{name}."))
+
+
+@functools.lru_cache(maxsize=None)
+def names_in(descriptor):
+    """Returns the full names of the message types and enums that a file declares, and of each type that its fields hold a field that does."""
+    parts = list(records(descriptor))
+    package = last(descriptor, 2).decode()
+    scope = f"{package}." if package else ""
+    found = [it for number, message in parts if number == 4 for it in held_in(message, scope)]
+    declared = [name for name, field in found if field is None]
+    declared += [scope + last(it, 1).decode() for number, it in parts if number == 5]
+    return declared, {name: field for name, field in reversed(found) if field}
+
+
+def needs_of(descriptors):
+    """Returns what the messages of each file of a set need, by path: each file that declares what a field of theirs holds, with the field and
+    the type that it holds. The names that a set declares are all different."""
+    where = {name: path for path, it in descriptors.items() for name in names_in(it)[0]}
+    found = {path: {} for path in descriptors}
+    for path, it in descriptors.items():
+        for name, field in names_in(it)[1].items():
+            if where.get(name, path) != path:
+                found[path].setdefault(where[name], (field, name))
+    return found
+
+
+def pared(descriptor, needs):
+    """Returns the descriptor of a file with its messages, and enums, alone. It imports what these need: names in a set are full ones, so
+    they need no public import. What holds options alone, as an extension or a service does, is left out."""
+    parts = [it for it in records(descriptor) if it[0] in NEEDED]
+    return joined([*parts, *((3, os.fsencode(it)) for it in needs)])

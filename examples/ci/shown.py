@@ -14,7 +14,10 @@ PATIENCE = 5
 # The output of a call that is refused: one line. Lines of readings are beside others.
 REFUSAL = re.compile(r"refused (?:(old|new) )?(E\d{3})(?: (.*))?\n")
 # The options that a value follows.
-VALUED = ("--old-dir", "--new-dir", "--dir", "--old", "--new", "--type", "--view", "--file")
+VALUED = ("--old-dir", "--new-dir", "--dir", "--old-include", "--new-include", "--include", "--old", "--new", "--type", "--view", "--file")
+VALUED += ("--old-files-from", "--new-files-from", "--files-from")
+# The error at a position in a list of files, which is found from the current folder.
+IN_LIST = "E906"
 
 
 class Call:
@@ -34,14 +37,19 @@ class Call:
     def folder(self, side):
         return self.values.get(f"--{side}-dir" if side else "--dir", ["."])[-1]
 
+    def includes(self, side):
+        return self.values.get(f"--{side}-include" if side else "--include", [])
+
     def path(self, side, file):
-        """Returns where a file of a side is, from the current folder."""
-        return os.path.normpath(os.path.join(self.folder(side), file))
+        """Returns where a file of a side is, from the current folder: in the first of its folders that has it. They are asked as the program
+        joins their paths: `nowhere/..` isn't there, nor is a link that leads nowhere."""
+        paths = [file if it == "." else f"{it}/{file}" for it in (self.folder(side), *self.includes(side))]
+        return next(filter(os.path.exists, paths), paths[0])
 
     def types_call(self, side):
         """Returns the words that ask for the message types of a side."""
         files = self.values.get(f"--{side}", []) if side else self.values.get("--file", [])
-        return ["types", f"--dir={self.folder(side)}", "--", *files]
+        return ["types", f"--dir={self.folder(side)}", *[f"--include={it}" for it in self.includes(side)], "--", *files]
 
 
 def printed(program, words, statuses):
@@ -57,16 +65,16 @@ def printed(program, words, statuses):
 def line_at(path, number):
     try:
         return lines_of(path)[number - 1]
-    except (OSError, IndexError):
+    except IndexError:
         return None
 
 
-def position_of(call, side, rest):
-    """Returns the position of a refusal as it is shown, and the line of the source file there, or nothing."""
+def position_of(call, side, code, rest):
+    """Returns the position of a refusal as it is shown, and the line of the file there, or nothing."""
     found = re.fullmatch(r"(.+):(\d+):(\d+)", rest)
     if found:
-        path = call.path(side, found[1])
-        return f"{path}:{found[2]}:{found[3]}", line_at(path, int(found[2]))
+        path = found[1] if code == IN_LIST else call.path(side, found[1])
+        return f"{os.path.normpath(path)}:{found[2]}:{found[3]}", line_at(path, int(found[2]))
     return rest.replace("at ", "byte ", 1) if rest.startswith("at ") else rest, None
 
 
@@ -93,6 +101,6 @@ def shown(output, words, name, program=None):
     if not found or not sentence_of(found[2]):
         return ""
     side, code, rest = found[1] or "", found[2], found[3] or ""
-    place, line = position_of(call, side, rest)
+    place, line = position_of(call, side, code, rest)
     helps = [likely_name(program, call, code)] if program and code in ("E901", "E902") else []
     return block(code, sentence_on(code, rest), place, line, [*helps, mend_of(code, name)]) + "\n"

@@ -2,25 +2,13 @@
 
 import os
 import re
-import subprocess
 import tempfile
 
 from calls import Stop, did_you_mean, plain, run
+from repositories import git, top_of_work_tree, without_filters
 from walks import is_text
 
 LINK, SUBMODULE = "120000", "160000"
-# A hook has these in its environment. They must not lead git to the hook's repository where another one is meant.
-OF_ONE_REPOSITORY = ("GIT_DIR", "GIT_WORK_TREE", "GIT_INDEX_FILE", "GIT_COMMON_DIR", "GIT_OBJECT_DIRECTORY", "GIT_PREFIX")
-
-
-def git(*words, at=(), **how):
-    """Runs git, here or in the repository that the arguments `at` name."""
-    environment = {name: it for name, it in os.environ.items() if not at or name not in OF_ONE_REPOSITORY}
-    more = {name: how.pop(name) for name in list(how) if name.startswith("GIT_")}
-    try:
-        return run(["git", *at, *words], stderr=subprocess.PIPE, env={**environment, **more}, **how)
-    except OSError:
-        raise Stop(4, "there is no git") from None
 
 
 def lines_of(*words, must_work=False, **how):
@@ -30,17 +18,6 @@ def lines_of(*words, must_work=False, **how):
         raise Stop(3, f"git {words[0]} failed: {faults.strip()}")
     said = os.fsdecode(said) if status == 0 else ""
     return [it for it in said.split("\0" if "-z" in words else "\n") if it]
-
-
-def top_of_work_tree():
-    """Returns the top of the work tree, or `.` where there is none. With GIT_DIR alone git takes the current folder for it."""
-    tops = []
-    for at in ((), ("-C", ".")):
-        status, said, _ = git("rev-parse", "--show-toplevel", at=at)
-        tops += [os.fsdecode(said)[:-1]] if status == 0 else []
-    if len(tops) == 2 and tops[0] != tops[1]:
-        raise Stop(4, f"git takes {plain(tops[0])} for the top of the work tree, which is {plain(tops[1])}: unset GIT_DIR and GIT_WORK_TREE")
-    return tops[0] if tops else "."
 
 
 # The revision.
@@ -93,10 +70,11 @@ class Place:
         if not folder:
             raise Stop(4, "a folder's name is empty")
         self.folder = os.path.relpath(folder)
-        prefix = "".join(lines_of("rev-parse", "--show-prefix"))
-        top = os.path.normpath(os.path.join(prefix, self.folder))
+        top = os.path.normpath(os.path.join(os.path.relpath(os.getcwd(), top_of_work_tree()), self.folder))
         if top.split("/")[0] in ("..", ""):
             raise Stop(4, f"{plain(folder)} isn't in the repository")
+        if os.path.realpath(self.folder) != os.path.normpath(os.path.join(top_of_work_tree(), top)):
+            raise Stop(4, f"{plain(folder)} is a link, or in one: name the folder to which it leads")
         self.top = "" if top == "." else f"{top}/"
 
 
@@ -107,22 +85,29 @@ class Laid:
         self.folder, self.listed, self.unread, self.files_outside = folder, {}, {}, set()
 
 
-def write_tree(tree, laid, below, room, at=()):
-    """Writes a tree's files below a folder that is laid out, as links where they are links, and returns the commits of its submodules."""
+def write_tree(tree, laid, below, room, at=(), prefix=""):
+    """Writes a tree's files below a folder that is laid out, as links where they are links, and returns the commits of its submodules. With a
+    prefix these are the files below it alone, at the end of that folder's name: the attributes of the folders around count for them too."""
     into = os.path.join(laid.folder, below)
     os.makedirs(into, exist_ok=True)
-    index = {"GIT_INDEX_FILE": os.path.join(tempfile.mkdtemp(dir=room), "index")}
-    plainly = ["-c", "core.symlinks=true", "-c", "core.sparseCheckout=false", f"--work-tree={into}"]
-    for words in (["read-tree", tree], ["checkout-index", "--all"]):
-        status, _, faults = git(*plainly, *words, at=at, **index)
-        if status != 0:
-            raise Stop(3, f"the files of {tree} can't be laid out: {faults.strip()}")
-    submodules = {}
-    for line in lines_of("ls-tree", "-r", "-z", "--full-tree", tree, at=at, must_work=True):
-        (mode, _, name), path = line.partition("\t")[0].split(), os.path.join(below, line.partition("\t")[2])
+    submodules, words = {}, ("-z", "--full-tree", tree, "--", *[prefix] * bool(prefix))
+    for line in lines_of("ls-tree", "-r", *words, at=at, must_work=True, GIT_LITERAL_PATHSPECS="1"):
+        (mode, _, name), listed = line.partition("\t")[0].split(), line.partition("\t")[2]
+        if not listed.startswith(prefix):
+            raise Stop(3, f"git lists {plain(listed)} below {plain(prefix)}")
+        path = os.path.join(below, listed[len(prefix) :])
         laid.listed[path] = mode
         if mode == SUBMODULE:
             submodules[path] = name
+    # (it is asked again, so that what is laid out and what is listed can be compared)
+    names = lines_of("ls-tree", "--name-only", "-r", *words, at=at, must_work=True, GIT_LITERAL_PATHSPECS="1")
+    index = {"GIT_INDEX_FILE": os.path.join(tempfile.mkdtemp(dir=room), "index")}
+    around = os.path.normpath(os.path.join(into, *[".."] * prefix.count("/")))
+    plainly = ["-c", "core.symlinks=true", "-c", "core.sparseCheckout=false", *without_filters(at), f"--work-tree={around}"]
+    for words, given in ((["read-tree", tree], b""), (["checkout-index", "-z", "--stdin"], os.fsencode("".join(f"{it}\0" for it in names)))):
+        status, _, faults = git(*plainly, *words, at=at, input=given, **index)
+        if status != 0:
+            raise Stop(3, f"the files of {tree} can't be laid out: {faults.strip()}")
     return submodules
 
 
@@ -130,7 +115,7 @@ def repository_of(commit, checked_out, at, path):
     """Returns the arguments by which git finds a submodule's own repository, if that is here and has the commit: in the work tree, or
     among those that the repository around it keeps, where `path` is the submodule's."""
     kept = "".join(lines_of("rev-parse", "--git-path", f"modules/{path}", at=at))
-    kept = os.path.join(at[1] if at[:1] == ("-C",) else "", kept)
+    kept = os.path.join(at[1] if at[:1] == ("-C",) else "" if at else top_of_work_tree(), kept)
     # Its settings name a folder for its files, which may be gone.
     alone = ("--git-dir", kept, "--work-tree", kept)
     for words, there in ((("-C", checked_out), f"{checked_out}/.git"), (alone, f"{kept}/HEAD")):
@@ -156,16 +141,31 @@ def write_submodules(laid, submodules, room, around):
 def lay_out(commit, around, room):
     """Lays a folder out as it was in a commit. Returns nothing where the commit has no such folder."""
     name = "".join(lines_of("rev-parse", "--verify", "--quiet", "--end-of-options", f"{commit}:{around.top[:-1]}"))
-    kind = lines_of("cat-file", "-t", name) if name else ["blob"]
-    if kind == ["blob"]:
+    kind = kind_of(commit, around.top[:-1]) if name else "blob"
+    if kind == "blob":
+        refuse_below_submodules(commit, around)
         return None
-    laid = Laid(tempfile.mkdtemp(dir=room))
+    laid = Laid(os.path.join(tempfile.mkdtemp(dir=room), around.top))
     # A submodule is the name of a commit that this repository hasn't.
-    write_submodules(laid, write_tree(name, laid, "", room) if kind == ["tree"] else {"": name}, room, around)
+    write_submodules(laid, write_tree(commit, laid, "", room, prefix=around.top) if kind == "tree" else {"": name}, room, around)
     if "" in laid.unread:
         raise Stop(4, laid.unread[""][1])
     laid.files_outside = files_outside(commit, laid, around.top)
     return laid
+
+
+def kind_of(commit, path):
+    """Returns what a path of a commit is. The object itself isn't asked for: git would seek it at another repository."""
+    found = lines_of("ls-tree", "-z", "--full-tree", commit, "--", path, GIT_LITERAL_PATHSPECS="1") if path else []
+    return found[0].split()[1] if found else "tree"
+
+
+def refuse_below_submodules(commit, around):
+    """Stops where a folder was below a submodule in a commit: that has it, and not this repository."""
+    parts = around.top.split("/")[:-1]
+    for path in ("/".join(parts[:count]) for count in range(1, len(parts))):
+        if kind_of(commit, path) == "commit":
+            raise Stop(4, f"{plain(around.folder)} is below {plain(path)}, which was a submodule: name that folder")
 
 
 def files_outside(commit, laid, top):
@@ -188,12 +188,14 @@ def no_folder(revision, commit, folder):
 # The new side.
 
 
-def indexed(folder, top="", at=()):
+def indexed(top="", at=()):
     """Returns what git's index lists of a folder, whose path from the top is given: of each path the letter of its state and its mode."""
-    words = ("ls-files", "--full-name", "-s", "-t", "-z", "--", folder)
+    words = ("ls-files", "--full-name", "-s", "-t", "-z", "--", top[:-1] or ".")
     listed = {}
     for line in lines_of(*words, at=at, must_work=True, GIT_LITERAL_PATHSPECS="1"):
         state, _, path = line.partition("\t")
+        if path == top[:-1] and state.split()[1] == SUBMODULE:
+            raise Stop(4, f"{plain(path)} is a submodule that isn't checked out: git submodule update --init {plain(path)}")
         if path.startswith(top):
             listed[path[len(top):]] = state.split()[:2]
     return listed
@@ -204,7 +206,7 @@ def of_work_tree(place):
     folder = place.folder
     laid = Laid(folder)
     is_submodule = place.top and os.path.lexists(f"{folder}/.git")
-    pending = [("", indexed(".", at=("-C", folder)) if is_submodule else indexed(folder, place.top))]
+    pending = [("", indexed(at=("-C", folder)) if is_submodule else indexed(place.top))]
     for around, listed in pending:
         for path, (state, mode) in listed.items():
             path = os.path.join(around, path)
@@ -215,7 +217,7 @@ def of_work_tree(place):
                     continue
                 laid.unread[path] = ("unseen", f"{plain(here)} isn't in this sparse checkout: add it to that")
             elif mode == SUBMODULE and os.path.lexists(f"{here}/.git"):
-                pending.append((path, indexed(".", at=("-C", here))))
+                pending.append((path, indexed(at=("-C", here))))
             elif mode == SUBMODULE:
                 laid.unread[path] = ("submodule", f"{plain(here)} is a submodule that isn't checked out: git submodule update --init {plain(here)}")
     return laid

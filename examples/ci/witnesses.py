@@ -44,10 +44,14 @@ def shown(lines):
     return "".join(f"{it}\n" for it in lines if it)
 
 
-def settle_field(field, old, new, way):
-    """Makes 'old' the old side's field, also backward, where the sides are exchanged, and adds what is at both positions."""
+def settle_field(field, old, new, way, files_of):
+    """Makes 'old' the old side's field, also backward, where the sides are exchanged, and adds what is at both positions. That of a set is
+    looked for: `files_of` has for each side the file that declares each message type."""
     if way == "backward":
         field.update(old=field["new"], new=field["old"], old_place=field["new_place"], new_place=field["old_place"])
+    for name, side, files in (("old", old, files_of[0]), ("new", new, files_of[1])):
+        if field[f"{name}_place"] == "-":
+            field[f"{name}_place"] = side.place_of_field(files.get(field[name].rpartition(".")[0]), field[name])
     field.update(old_text=old.line_at(field["old_place"]), new_text=new.line_at(field["new_place"]))
     field.update(old_place=old.shown(field["old_place"]), new_place=new.shown(field["new_place"]))
 
@@ -70,5 +74,6 @@ def add_witness(answer, old, new, options):
         raise Stop(3, f"protogate ended with {status}, and its lines don't answer for {name}: {os.fsdecode(said)[:500]}")
     answer.update({it: found[0][it] for it in OWN})
     answer["readings"] = settle_readings(answer["readings"], way)
+    files_of = [side.files_of_types(answer[f"{side.name}_file"]) for side in (old, new)]
     for step in answer["steps"]:
-        settle_field(step, old, new, way)
+        settle_field(step, old, new, way, files_of)

@@ -11,10 +11,15 @@ from settings import FILE
 
 # As many hexadecimal digits of a witness are printed; the record has them all.
 SHOWN_DIGITS = 400
+# As many fields of a oneof are named in a sentence.
+MOST_NAMED = 8
+# What to do where protoc may help: it wasn't on the path, or the call or the settings said no.
+WITH_PROTOC = "gate with protoc on the path, and without --no-with-protoc"
 
 
 def advise(words):
-    print("gate: " + "\n".join(map(plain, str(words).split("\n"))), file=sys.stderr)
+    """Says words on standard error. Each line begins so, since GitHub takes a line that begins otherwise for a command."""
+    print("\n".join(f"gate: {plain(it)}" for it in str(words).split("\n")), file=sys.stderr)
 
 
 def shortened(digits):
@@ -94,13 +99,13 @@ def advice_on(it):
     words = [f"did you mean {near}?"] if near else []
     if it.get("protoc") and it["code"] == "E301":
         words.append(f"{it['place']} imports a file of the library that isn't below the folder, an --include, protoc's folder or the "
-                     "system's; protoc may bring it: use --with-protoc")
+                     f"system's; protoc may bring it: {WITH_PROTOC}")
     elif it.get("protoc"):
-        words.append(f"{it['place']} isn't taken as a source file; protoc may make a set of it: use --with-protoc")
+        words.append(f"{it['place']} isn't taken as a source file; protoc may make a set of it: {WITH_PROTOC}")
     if it.get("protoc_says"):
-        lacks = re.search(r"google/protobuf/\S+: File not found", it["protoc_says"])
+        lacks = any("google/protobuf/" in line and ": File not found" in line for line in it["protoc_says"].split("\n"))
         words.append(f"protoc refuses it on the {it['side']} side, too: {it['protoc_says']}"
-                     + " (Debian has the library's files in libprotobuf-dev)" * bool(lacks))
+                     + " (Debian has the library's files in libprotobuf-dev)" * lacks)
     return " ".join(words)
 
 
@@ -130,14 +135,21 @@ def reading(side, lines):
     return f"The {side} side refuses it: {why}. {sentence_of(why.split()[0])}".rstrip()
 
 
+def listed(names):
+    """Returns the names as words of a sentence: the first few, and how many more there are."""
+    more = len(names) - MOST_NAMED
+    *first, last = [*names[:MOST_NAMED], f"{more} more"] if more > 0 else names
+    return f"{', '.join(first)} and {last}"
+
+
 def what_breaks(cause):
     """What is said of a cause, for an annotation: why, the message that shows it, and what to do."""
     writer, article = ("old", "an") if cause["direction"] == "forward" else ("new", "a")
     owner = cause["fields"][0][writer].rpartition(".")[0]
     message = f"{why(cause)}\nA message of {owner} that {article} {writer} program writes: {shortened(cause['witness'])}"
-    if len(cause["fields"]) == 2:
+    if len(cause["fields"]) > 1:
         reader = "new" if cause["direction"] == "forward" else "old"
-        named = " and ".join(f"{it[reader]} ({it[reader + '_place']})" for it in cause["fields"])
+        named = listed([f"{it[reader]} ({it[reader + '_place']})" for it in cause["fields"]])
         message += f"\nThe fields are {named}."
     return message
 
@@ -153,7 +165,7 @@ def told(it, run):
 
 
 def annotation_of_cause(cause, run):
-    """The annotation of a cause, at the new side's field where that has a position, of two at the later one."""
+    """The annotation of a cause, at the new side's field where that has a position, of several at the last one."""
     field = cause["fields"][-1]
     place = field["new_place"]
     file = cause["new_file"] if place == "-" else place.rpartition(":")[0].rpartition(":")[0]
@@ -199,17 +211,30 @@ def annotations_of(run):
             *(annotation_of(it, run) for it in missing), *(annotation_of_caution(it, run) for it in run["warnings"])]
 
 
-def print_skips(skips, github):
-    """Prints the skips of the settings whose last day is over."""
+def print_skips(skips, name, github):
+    """Prints the skips of the settings whose last day is over. `name` is that of the file."""
     for it in skips:
         if it["is_over"]:
-            place = f"{FILE}:{it['line']}"
+            place = f"{name}:{it['line']}"
             why = (f"the skip of {it['name']} ended on {it['until']}. Its reason was: {it['reason']} Take it out, or give it a later day if the "
                    "reason still holds.")
             say(f"refused skip {it['name']} {it['until']}")
             advise(f"{place}: {why}")
             if github:
-                say(annotation(f"protogate: refused skip {it['name']}", why, FILE, f"{place}:1"))
+                say(annotation(f"protogate: refused skip {it['name']}", why, name, f"{place}:1"))
+
+
+def warn_of_settings(words, github):
+    """Says that the change's own settings aren't those that count."""
+    if words:
+        advise(words)
+        if github:
+            say(annotation("protogate: settings", words, FILE, kind="warning"))
+
+
+def line_of_skip(skipped):
+    """The line of a skip that names something."""
+    return f"skipped {skipped['name']}" + (f" until {skipped['until']}" if skipped["until"] else "")
 
 
 def say(*lines):
@@ -218,13 +243,14 @@ def say(*lines):
 
 
 def lines_of(run, names_types):
-    """Yields the lines of a run, each with what is refused, or with nothing: the causes, each with why it breaks, then what is refused, the
-    types that break, were removed or came, and how many are compatible, or which."""
+    """Yields the lines of a run, each with what is refused, or with nothing: the causes, each with why it breaks, then what is refused and what
+    is skipped, the types that break, were removed or came, and how many are compatible, or which."""
     for cause in run["causes"]:
         yield line_of_cause(cause, run["both"]), None
         yield f"  {why(cause)}", None
     for it in run["refusals"]:
         yield f"refused {it['side']} {it['code']} {it['place']}", it
+    yield from ((line_of_skip(it), None) for it in run["skipped"])
     for verdict in ("refused", "breaks", "removed", "added", *["compatible"] * names_types):
         yield from ((line_of(it, run["both"]), it if verdict == "refused" else None) for it in run["answers"] if it["verdict"] == verdict)
     if not names_types:

@@ -13,19 +13,20 @@ import os
 import re
 
 OPTIONS = {
-    "compile": ("dir",),
-    "gate": ("old-dir", "new-dir", "old", "new", "type", "view"),
-    "gate-all": ("old-dir", "new-dir", "old", "new", "view"),
-    "show": ("dir", "file", "type"),
-    "types": ("dir",),
-    "verify": ("old-dir", "new-dir", "old", "new"),
+    "compile": ("dir", "include", "files-from"),
+    "gate": ("old-dir", "new-dir", "old-include", "new-include", "old", "new", "type", "view"),
+    "gate-all": ("old-dir", "new-dir", "old-include", "new-include", "old", "new", "old-files-from", "new-files-from", "view"),
+    "show": ("dir", "include", "file", "type"),
+    "types": ("dir", "include", "files-from"),
+    "verify": ("old-dir", "new-dir", "old-include", "new-include", "old", "new"),
 }
 REQUIRED = {"compile": (), "gate": ("old", "new", "type"), "gate-all": (), "show": ("file", "type"), "types": (), "verify": ("old", "new")}
-# The options that may come several times, and have to come once.
+# The options that may come several times, or not at all.
 SEVERAL = {"gate-all": ("old", "new")}
-FLAGS = {"gate": ("cert", "both", "explain"), "gate-all": ("explain",)}
+INCLUDES = ("include", "old-include", "new-include")
+FLAGS = {"gate": ("cert", "both", "explain", "json"), "gate-all": ("explain", "json", "notes"), "verify": ("json",), "show": ("json",), "types": ("json",)}
 # How many words without a name a subcommand takes, at least and at most.
-PLAIN = {"compile": (1, None), "gate": (0, 0), "gate-all": (0, 0), "show": (1, 1), "types": (1, None), "verify": (1, 1)}
+PLAIN = {"compile": (0, None), "gate": (0, 0), "gate-all": (0, 0), "show": (1, 1), "types": (0, None), "verify": (1, 1)}
 VIEWS = ("numbers", "names")
 # What reading a path comes to, where it isn't bytes.
 MISSING, FAILED = "missing", "failed"
@@ -54,7 +55,7 @@ class Call:
         self.name, self.values, self.several, self.flags, self.plain = name, values, several, flags, plain
 
     def sides(self):
-        """Returns for each folder of the call its option, and the paths that are asked for below it."""
+        """Returns for each folder of the call its option, and the paths of words that are asked for below it."""
         if self.name == "gate-all":
             return [("old-dir", self.several["old"]), ("new-dir", self.several["new"])]
         if self.name in ("gate", "verify"):
@@ -110,13 +111,13 @@ def call_of(words):
     found = sorted_out(name, words[1:]) if name in OPTIONS else None
     if not found:
         return None
-    values = {option: value for option, value in found[0] if option not in SEVERAL.get(name, ())}
-    several = {it: [value for option, value in found[0] if option == it] for it in SEVERAL.get(name, ())}
+    repeated = (*SEVERAL.get(name, ()), *INCLUDES)
+    values = {option: value for option, value in found[0] if option not in repeated}
+    several = {it: [value for option, value in found[0] if option == it] for it in repeated}
     flags, plain = found[1], found[2]
     least, most = PLAIN[name]
     is_whole = (
         len(values) + sum(map(len, several.values())) == len(found[0])
-        and all(several.values())
         and len(set(flags)) == len(flags)
         and all(it in values for it in REQUIRED[name])
         and values.get("view", VIEWS[0]) in VIEWS
@@ -135,6 +136,16 @@ def read(path):
     except OSError:
         return FAILED
     return found if len(found) < MOST_BYTES else FAILED
+
+
+def names_in(listed):
+    """Returns the files that a list names: none where it isn't UTF-8."""
+    try:
+        listed.decode("utf-8")
+    except UnicodeDecodeError:
+        return []
+    *ended, last = listed.split(b"\n")
+    return [os.fsdecode(it) for it in (*(line.removesuffix(b"\r") for line in ended), last) if it]
 
 
 def below(folder, path):
@@ -176,16 +187,25 @@ def is_utf8(word):
     return True
 
 
-def asked_for(folder, paths, follows_imports):
-    """Returns what reading comes to for each path below a folder that the program may ask for: these, and what they import."""
+def read_in_turn(folders, path):
+    """Returns what reading a path comes to below the first of the folders that has it."""
+    for folder in folders:
+        found = read(below(folder, path))
+        if found is not MISSING:
+            return found
+    return MISSING
+
+
+def asked_for(folders, paths, follows_imports):
+    """Returns what reading comes to for each path in folders that the program may ask for: these, and what they import."""
     outcomes, left = {}, list(reversed(paths))
     while left:
         path = left.pop()
         if path in outcomes:
             continue
         if len(outcomes) == MOST_FILES:
-            raise Unanswerable(f"more than {MOST_FILES:,} files are imported")
-        outcomes[path] = read(below(folder, path))
+            raise Unanswerable(f"more than {MOST_FILES:,} files are named or imported")
+        outcomes[path] = read_in_turn(folders, path)
         if follows_imports and isinstance(outcomes[path], bytes):
             left += reversed(imports_in(outcomes[path]))
     return outcomes
@@ -253,13 +273,14 @@ class Copies:
         return base
 
     def leave(self, path, outcome):
-        """Has a path that can't be read, and is printed, come to the same in the folder where the program runs."""
-        self.unread = path
+        """Has a path that is printed come to the same in the folder where the program runs. Only one that can't be read may lead out of it."""
         self.outcomes.append({path: outcome})
-        if not path.startswith("/") and not levels_up(path):
+        is_read, is_inside = isinstance(outcome, bytes), path and not path.startswith("/") and not levels_up(path)
+        self.unread = None if is_read else path
+        if is_inside:
             self.put(".", path, outcome)
-            if read(f"{self.top}/{path}") != outcome:
-                raise Unanswerable(f"{path!r} can't be handed over by that name")
+        if read(f"{self.top}/{path}") != outcome if is_inside else is_read:
+            raise Unanswerable(f"{path!r} can't be handed over by that name")
 
     def handed(self):
         """Returns the name of each file of the copy, and where it is."""
@@ -273,7 +294,7 @@ class Copies:
 
     def can_say(self, printed):
         """Returns whether the files that the program says are missing, or can't be read, are so for the user too."""
-        if self.unread is not None and not re.match(rb"refused (old |new |E001|E30[19] )", printed):
+        if self.unread is not None and not re.match(rb"refused (old |new |E001|E30[19]\b)", printed):
             return False
         said = re.match(r"refused (?:(?:old|new) )?E3(01|09) (.*)", os.fsdecode(printed))
         if not said:
@@ -282,12 +303,34 @@ class Copies:
         return any(it.get(said[2]) is wanted or file in it and wanted in it.values() for it in self.outcomes)
 
 
+def listed_files(call, copies):
+    """Copies the lists of a call. Returns the files that they name, by the option of their side's folder; or nothing where a list is at fault, so
+    that the program reads nothing after it. The list's path is printed only then."""
+    named = {}
+    for option, _ in call.sides():
+        of_list = option.replace("dir", "files-from")
+        path = call.values.get(of_list)
+        outcome = read(path) if path is not None else b""
+        named[option] = names_in(outcome) if isinstance(outcome, bytes) else []
+        if named[option]:
+            call.values[of_list] = below(copies.add(option.replace("dir", "list"), {"file": outcome}), "file")
+        elif path is not None:
+            copies.leave(path, outcome)
+            return None
+    return named
+
+
 def copied(call, top):
     """Copies what a call reads into a folder. Returns the copies, and the words that call for the same there."""
     copies = Copies(top)
+    listed = listed_files(call, copies)
+    if listed is None:
+        return copies, call.words()
     for option, paths in call.sides():
-        folder = call.values.get(option, ".")
-        outcomes = asked_for(folder, paths, call.reads_sources(paths))
+        paths = [*paths, *listed[option]]
+        include = option.replace("dir", "include")
+        folders, call.several[include] = [call.values.get(option, "."), *call.several[include]], []
+        outcomes = asked_for(folders, paths, call.reads_sources(paths))
         call.values[option] = copies.add(option.replace("-dir", ""), outcomes)
     if call.name == "verify":
         path = call.plain[0]

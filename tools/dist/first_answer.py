@@ -3,34 +3,42 @@
 
 usage: tools/dist/first_answer.py [WORD..]    takes the words that `protogate` takes
 
-It prints what the program prints and ends with its status: so does a call of the proved program, but that starts at once. Where `rt try`
-comes to no answer it ends with 3, and says what `rt try` said. It works beside builds and other calls, and leaves no file.
+It prints what the program prints and ends with its status: so does a call of the proved program. What was compiled is kept where it can be
+(tools/gate/unproved.py), and `protogate` starts it at later calls. Where `rt try` comes to no answer, a program that is kept answers; else the
+status is 3, and this says what `rt try` said. It works beside builds and other calls, and leaves nothing but the program that it keeps.
 """
 
-import contextlib
 import os
 import re
 import shutil
 import signal
-import subprocess
 import sys
 import tempfile
 import time
 
 sys.dont_write_bytecode = True
-from call_files import Unanswerable, call_of, copied  # noqa: E402
-
 TOP = os.path.dirname(os.path.dirname(os.path.dirname(os.path.realpath(__file__))))
-CRATE = f"{TOP}/crates/protogate"
-BEFORE = "no proved program of these sources is built on this machine: this answer takes some two minutes, and its build isn't proved"
+sys.path.append(f"{TOP}/tools/gate")
+import child_programs  # noqa: E402
+import stamp  # noqa: E402
+from call_files import Unanswerable, call_of, copied  # noqa: E402
+from unproved import OTHER_KEEPS, SECONDS, keep_program, tried  # noqa: E402
+
+CRATE = f"{TOP}/crates/{stamp.PROGRAM}"
+BEFORE = (
+    "no program of these sources is built on this machine: this call compiles one that isn't proved, in some two minutes, and keeps it for later "
+    "calls, which start at once"
+)
+# What is said where nothing is kept: before why, and after.
+NOT_KEPT = "nothing is kept here, since "
 AFTER = (
-    "to have the proved program, run tools/build.py (some 40 minutes on four processors), or tools/prove.py, which runs every check too; "
-    "calls then start at once"
+    "; so the next call compiles it again; to have the proved program, run tools/build.py (some 45 minutes on four processors), or "
+    "tools/prove.py, which runs every check too"
 )
 # The status of a call that comes to no answer.
 NO_ANSWER = 3
-# How long the program may run, in seconds.
-SECONDS = 300
+# Set where this script starts the kept program: where `protogate` takes that for stale, as if a source were of tomorrow, it doesn't do so again.
+AGAIN = "PROTOGATE_ANSWERS_AGAIN"
 # What `rt try` ends with where the program doesn't end by itself.
 REASONS = {
     1: "the kit refuses the sources",
@@ -40,17 +48,9 @@ REASONS = {
     5: "two runs of the program differ",
     6: f"the program printed more than 1 MiB, or took more than {SECONDS} seconds",
 }
-# How long what is told to end is waited for, in seconds.
+# How long the end by a signal is waited for, in seconds.
 PATIENCE = 5
 SIGNALS = (signal.SIGINT, signal.SIGTERM, signal.SIGHUP)
-
-
-class NoAnswer(Exception):
-    """There is no answer: why, and what `rt try` said."""
-
-    def __init__(self, why, said=b""):
-        super().__init__(why)
-        self.said = said
 
 
 def write_all(stream, data):
@@ -67,109 +67,6 @@ def say(words):
     write_all(sys.stderr, os.fsencode(f"protogate: {words}\n"))
 
 
-def parents():
-    """Returns the parent of each process that has not ended, and when the process began."""
-    found = {}
-    for pid in filter(str.isdigit, os.listdir("/proc")):
-        try:
-            with open(f"/proc/{pid}/stat", encoding="utf-8", errors="replace") as file:
-                fields = file.read().rpartition(")")[2].split()
-            if fields[0] != "Z":
-                found[int(pid)] = int(fields[1]), fields[19]
-        except OSError:
-            pass
-    return found
-
-
-def below(pid, known):
-    """Returns the processes that one began, and those that they began, each with its begin."""
-    found = {pid}
-    for _ in known:
-        more = {it for it, (parent, _) in known.items() if parent in found} - found
-        if not more:
-            break
-        found |= more
-    return {it: known[it][1] for it in found if it in known}
-
-
-def kill(started):
-    """Kills processes that are still there, and waits until they are gone."""
-    until = time.monotonic() + PATIENCE
-    while time.monotonic() < until:
-        now = parents()
-        left = [pid for pid, begin in started.items() if pid in now and now[pid][1] == begin]
-        if not left:
-            return
-        for pid in left:
-            with contextlib.suppress(ProcessLookupError):
-                os.kill(pid, signal.SIGKILL)
-        time.sleep(0.01)
-
-
-def end(process):
-    """Ends what was started. rt ends its own processes where it is told to end, and what is left then is killed."""
-    started = below(process.pid, parents())
-    process.terminate()
-    try:
-        process.wait(PATIENCE)
-    except subprocess.TimeoutExpired:
-        process.kill()
-        process.wait()
-    kill(started)
-
-
-def status_of(call, **how):
-    """Runs a command, and returns its status. Where this process is told to end meanwhile, it ends what was started."""
-    mask = signal.pthread_sigmask(signal.SIG_BLOCK, SIGNALS)
-    try:
-        process = subprocess.Popen(call, preexec_fn=lambda: signal.pthread_sigmask(signal.SIG_SETMASK, mask), **how)
-    except OSError as fault:
-        signal.pthread_sigmask(signal.SIG_SETMASK, mask)
-        raise NoAnswer(f"`{call[0]}` can't be started ({fault.strerror})") from None
-    try:
-        signal.pthread_sigmask(signal.SIG_SETMASK, mask)
-        return process.wait()
-    finally:
-        if process.returncode is None:
-            end(process)
-
-
-def tried(words, handed, room):
-    """Runs `rt try` on the words, with these files handed over. Returns its status, what was printed, and what it said itself."""
-    data = [word for name, file in handed for word in ("--data", f"{name}={file}")]
-    os.mkdir(f"{room}/temporary")
-    call = ["rt", "try", "--seconds", str(SECONDS), *data, "--", *words]
-    with open(f"{room}/printed", "w+b") as printed, open(f"{room}/said", "w+b") as said:
-        how = {"cwd": CRATE, "stdin": subprocess.DEVNULL, "stdout": printed, "stderr": said, "start_new_session": True}
-        status = status_of(call, env={**os.environ, "TMPDIR": f"{room}/temporary"}, **how)
-        printed.seek(0)
-        said.seek(0)
-        return status, printed.read(), said.read()
-
-
-def has_ended(status, said):
-    """Returns whether a status of `rt try` is the program's own, by the last line. `rt try` has statuses of its own among 1 to 6."""
-    last = said.rstrip().rpartition(b"\n")[2]
-    run = re.search(rb"\brun=(\S+)", last)
-    its_status = re.search(rb"\bstatus=(\d+)\b", last)
-    if not last.endswith(b"proved=no") or run and run[1] != b"ended":
-        return False
-    return int(its_status[1]) == status if its_status else status == 0
-
-
-def answer(words, room):
-    """Returns what the program prints for the words, and its status."""
-    call, copies = call_of(words), None
-    if call:
-        copies, words = copied(call, f"{room}/files")
-    status, printed, said = tried(words, copies.handed() if copies else [], room)
-    if not has_ended(status, said):
-        raise NoAnswer(REASONS.get(status, f"`rt try` ended with {status}"), said)
-    if not (copies.can_say(printed) if copies else not re.match(rb"refused .*E3(01|09) ", printed)):
-        raise NoAnswer("the program asked for a file that wasn't handed to it")
-    return printed, status
-
-
 def lacks_tools():
     """Says what is missing, and returns whether anything is."""
     if shutil.which("rt"):
@@ -178,8 +75,44 @@ def lacks_tools():
     return True
 
 
+def read_sources():
+    """Returns when the sources are read and their checksum, and nothing; or nothing and why no program of them can be kept."""
+    try:
+        return stamp.read_now(TOP), ""
+    except (OSError, ValueError) as fault:
+        return None, str(fault)
+
+
+def why_not_kept(trial, begun):
+    """Keeps what was compiled of the sources as they were read. Returns nothing, or why it didn't."""
+    try:
+        return keep_program(TOP, begun, trial)
+    except (OSError, ValueError) as fault:
+        return str(fault)
+
+
+def handed_over(words, room):
+    """Returns the words to hand over, copies of what they name, these as files by their names, and nothing: or other words, which compile the program
+    too, and why those of the user can't be handed over."""
+    try:
+        call = call_of(words)
+        copies, asked = copied(call, f"{room}/files") if call else (None, words)
+        return asked, copies, copies.handed() if copies else (), None
+    except Unanswerable as fault:
+        return ["--version"], None, (), (str(fault), b"")
+
+
+def fault_of(answer, copies):
+    """Returns why what `rt try` came to is no answer for the user, with what it said of that, or nothing where it is one."""
+    if not answer.has_ended():
+        return REASONS.get(answer.status, f"`rt try` ended with {answer.status}"), answer.said
+    if not (copies.can_say(answer.printed) if copies else not re.match(rb"refused .*E3(01|09) ", answer.printed)):
+        return "the program asked for a file that wasn't handed to it", b""
+    return None
+
+
 def show_refusals(printed, words):
-    """Shows on a terminal in words what was refused, as the script that starts the proved program does."""
+    """Shows on a terminal in words what was refused, as the script that starts a kept program does."""
     scripts = f"{TOP}/examples/ci"
     if sys.stderr and sys.stderr.isatty() and os.path.isfile(f"{scripts}/shown.py"):
         sys.path.append(scripts)
@@ -188,24 +121,43 @@ def show_refusals(printed, words):
         write_all(sys.stderr, os.fsencode(shown(os.fsdecode(printed), words, "gate.sh")))
 
 
+def show(answer, words):
+    """Prints what the program printed, and returns the status to end with."""
+    status = answer.status if write_all(sys.stdout, answer.printed) else NO_ANSWER
+    if status in (2, 3, 4):
+        show_refusals(answer.printed, words)
+    return status
+
+
+def answered(words, room):
+    """Answers the words. Returns the status to end with, why there is no answer, and why the program isn't kept, or nothing where it is."""
+    begun, why = read_sources()
+    asked, copies, data, fault = handed_over(words, room)
+    with tried(CRATE, asked, data, seconds=SECONDS) as trial:
+        fault = fault or fault_of(trial.answer, copies)
+        status = NO_ANSWER if fault else show(trial.answer, words)
+        return status, fault, why or why_not_kept(trial, begun)
+
+
 def run(words):
     """Answers the words, and returns the status to end with."""
     if lacks_tools():
         return NO_ANSWER
     say(BEFORE)
-    status = NO_ANSWER
+    status, why = NO_ANSWER, "nothing was compiled"
     try:
         with tempfile.TemporaryDirectory(prefix="protogate-") as room:
-            printed, status = answer(words, room)
-        status = status if write_all(sys.stdout, printed) else NO_ANSWER
-        if status in (2, 3):
-            show_refusals(printed, words)
-    except NoAnswer as fault:
-        write_all(sys.stderr, fault.said)
+            status, fault, why = answered(words, room)
+        if fault and not why and AGAIN not in os.environ:
+            # It has no limits of `rt try`, and reads the user's own files.
+            os.execve(f"{TOP}/protogate", ["protogate", *words], {**os.environ, AGAIN: "1"})
+        if fault:
+            write_all(sys.stderr, fault[1])
+            say(f"no answer: {fault[0]}")
+    except OSError as fault:
         say(f"no answer: {fault}")
-    except (Unanswerable, OSError) as fault:
-        say(f"no answer: {fault}")
-    say(AFTER)
+    if why:
+        say(f"{why}, and later calls start it" if why == OTHER_KEEPS else f"{NOT_KEPT}{why}{AFTER}")
     return status
 
 
@@ -216,6 +168,7 @@ class Told(BaseException):
 def stop(number, _):
     for it in SIGNALS:
         signal.signal(it, signal.SIG_IGN)
+    child_programs.end_all()
     raise Told(number)
 
 

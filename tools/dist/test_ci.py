@@ -8,6 +8,7 @@ What is wanted of a change is in examples/changes, or follows from the rules of 
 
 import json
 import os
+import resource
 import shutil
 import subprocess
 import sys
@@ -26,7 +27,15 @@ import sets  # noqa: E402
 import wording  # noqa: E402
 
 HEAD = 'syntax = "proto3";\n'
+# What git does by itself after a commit, in the background: it may write into a folder that a test removes.
+NO_UPKEEP = ("-c", "gc.auto=0", "-c", "maintenance.auto=false")
 NO_PROTOC = unittest.skipUnless(shutil.which("protoc"), "there is no protoc")
+
+
+def spent():
+    """Returns how many seconds of a processor the processes took that have ended, however many others run beside them."""
+    used = resource.getrusage(resource.RUSAGE_CHILDREN)
+    return used.ru_utime + used.ru_stime
 
 
 def read(path):
@@ -42,7 +51,7 @@ class Repository(unittest.TestCase):
         self.top = f"{self.room.name}/a repository"
         os.mkdir(self.top)
         self.addCleanup(self.room.cleanup)
-        self.env = {**os.environ, "PROTOGATE": PROGRAM, "GIT_CONFIG_NOSYSTEM": "1", "GIT_CONFIG_GLOBAL": "/dev/null"}
+        self.env = {**os.environ, "PROTOGATE": PROGRAM}
         self.env = {name: it for name, it in self.env.items() if not name.startswith(("GITHUB_", "CI_"))}
 
     def write(self, texts, top=None):
@@ -53,7 +62,7 @@ class Repository(unittest.TestCase):
                 file.write(words if isinstance(words, bytes) else words.encode())
 
     def git(self, *words, at=None):
-        who = ["-c", "user.name=nobody", "-c", "user.email=nobody@example.org", "-c", "init.defaultBranch=main"]
+        who = ["-c", "user.name=nobody", "-c", "user.email=nobody@example.org", "-c", "init.defaultBranch=main", *NO_UPKEEP]
         done = subprocess.run(["git", *who, *words], cwd=at or self.top, env=self.env, check=True, stdout=subprocess.PIPE)
         return done.stdout.decode().strip()
 
@@ -90,9 +99,9 @@ class Answers(Repository):
 
     # -1 of the quantity is no uint32, and byte 80 of the note no UTF-8.
     causes = ["cause value 11 10ffffffffffffffffff01 2 Order.quantity order.proto:5:9 Order.quantity order.proto:5:10",
-              "  The new program reads this value as another one, refuses it, or doesn't read it.",
+              "  The new program reads this value as another one, or refuses it.",
               "cause value 3 220180 4 Order.note order.proto:7:9 Order.note order.proto:7:10",
-              "  The new program reads this value as another one, refuses it, or doesn't read it."]
+              "  The new program reads this value as another one, or refuses it."]
     breaks = "breaks Order 3 witness 220180 at Order.note order.proto:7:9 Order.note order.proto:7:10"
     both = ["breaks Order 3", "compatible Customer"]
 
@@ -118,28 +127,30 @@ class Answers(Repository):
             self.assertEqual((status, [it.split()[5] for it in said if it.startswith("cause ")]), (1, fields.split()), name)
         skipped = [word for it in "LMN" for word in ("--skip", it)]
         self.assertEqual([it.split()[5] for it in self.call("v1", "proto", *skipped)[1] if it.startswith("cause ")], ["O.c"])
-        self.assertEqual(self.call("v1", "proto", *skipped, "--skip", "O"), (0, []))
+        self.assertEqual(self.call("v1", "proto", *skipped, "--skip", "O"), (0, [f"skipped {it}" for it in "LMNO"]))
 
     def test_named_types_behind_options(self):
         self.release_orders()
         self.assertEqual(self.call("v1", "proto", "--skip", "Draft", "Customer"), (0, ["compatible Customer"]))
-        self.assertEqual(self.call("--view", "numbers", "v1", "--both", "proto", "--skip", "Order", "Customer", "Order")[1],
-                         ["forward compatible Customer", "backward compatible Customer"])
-        self.assertEqual(self.call("v1", "--both", "proto", "--skip", "Order")[1], ["forward compatible 1 type", "backward compatible 1 type"])
+        self.assertEqual(self.call("--view", "numbers", "v1", "--both", "proto", "--skip", "Order", "Customer")[1],
+                         ["skipped Order", "forward compatible Customer", "backward compatible Customer"])
+        self.assertEqual(self.call("--view", "numbers", "v1", "--both", "proto", "--skip", "Order", "Customer", "Order"), (4, []))
+        self.assertEqual(self.call("v1", "--both", "proto", "--skip", "Order")[1],
+                         ["skipped Order", "forward compatible 1 type", "backward compatible 1 type"])
 
     def test_the_name_that_was_called(self):
         self.release_orders()
         for more, name in (({}, "gate.sh"), ({"PROTOGATE_CI_NAME": "protogate-ci"}, "protogate-ci")):
             self.call(**more)
             self.assertTrue(self.advice.startswith(f"usage: {name} "), self.advice)
-            self.assertTrue(self.advice.endswith("required: REVISION, FOLDER\n"), self.advice)
+            self.assertRegex(self.advice, r"\ngate: name REVISION and FOLDER, or .*: --base REVISION .* or --settings FILE\n\Z")
         record = self.record("v1", "proto", "Customer", "--skip", "Order", "--view", "names", "--both", "--github", PROTOGATE_CI_NAME="protogate-ci")
         self.assertEqual(record["call"], ["protogate-ci", "--both", "--view", "names", "--skip", "Order", "v1", "proto", "Customer"])
 
     def test_a_type_that_is_skipped(self):
         self.release_orders()
-        self.assertEqual(self.call("v1", "proto", "--skip", "Order"), (0, ["compatible 1 type"]))
-        self.assertEqual(self.call("v1", "proto", "--skip", "order.proto"), (0, []))
+        self.assertEqual(self.call("v1", "proto", "--skip", "Order"), (0, ["skipped Order", "compatible 1 type"]))
+        self.assertEqual(self.call("v1", "proto", "--skip", "order.proto"), (0, ["skipped order.proto"]))
         self.assertEqual(self.advice, "")
         self.assertEqual(self.call("v1", "proto", "--skip", "Custmer")[0], 1)
         self.assertIn("--skip Custmer names nothing; did you mean Customer?", self.advice)
@@ -224,7 +235,7 @@ class Answers(Repository):
     def test_both_directions(self):
         self.release({"a.proto": HEAD + "message A { int32 a = 1; }"}, {"a.proto": HEAD + "message A {\n int64 a = 1;\n}"})
         fields = "A.a a.proto:2:19 A.a a.proto:3:8"
-        says = [f"backward cause value 6 088080808008 1 {fields}", "  The old program reads this value as another one, refuses it, or doesn't read it.",
+        says = [f"backward cause value 6 088080808008 1 {fields}", "  The old program reads this value as another one, or refuses it.",
                 "backward breaks A 6", "forward compatible 1 type"]
         status, said = self.call("v1", "proto", "--both", "--github")
         self.assertEqual((status, said[:4]), (1, says))
@@ -278,7 +289,7 @@ class Faults(Repository):
         self.release({"money.proto": HEAD}, {"money.proto": HEAD, "a.proto": HEAD + 'import "mony.proto"; message A { }'})
         self.assertEqual(self.call("v1", "proto"), (2, ["refused new E301 a.proto:2:8"]))
         self.assertIn("did you mean money.proto?", self.advice)
-        self.assertNotIn("use --with-protoc", self.advice)
+        self.assertNotIn("with protoc on the path", self.advice)
 
     def test_a_fault_is_told_once(self):
         texts = {"a.proto": HEAD + 'import "b.proto"; message A { }', "b.proto": HEAD + "message B { }", "c.proto": HEAD + "message C { }"}
@@ -297,10 +308,11 @@ class Faults(Repository):
     def test_options_are_refused(self):
         self.release_options()
         said = [f"refused {side} {it}" for side in ("old", "new") for it in ("E205 shop.proto:8:21", "E204 units.proto:7:1")]
-        self.assertEqual(self.call("v1", "proto"), (2, said))
-        self.assertIn("shop.proto:8:21 isn't taken as a source file; protoc may make a set of it: use --with-protoc\n", self.advice)
+        self.assertEqual(self.call("v1", "proto", "--no-with-protoc"), (2, said))
+        self.assertIn("shop.proto:8:21 isn't taken as a source file; protoc may make a set of it: gate with protoc on the path, and without "
+                      "--no-with-protoc\n", self.advice)
         # What is refused of the old side isn't in the work tree.
-        told = self.call("v1", "proto", "--github")[1][len(said):]
+        told = self.call("v1", "proto", "--no-with-protoc", "--github")[1][len(said):]
         self.assertEqual([" file=proto/" in it or ",line=" in it for it in told], [False, False, True, True])
 
     def test_a_text_that_was_refused_before(self):
@@ -314,9 +326,11 @@ class Faults(Repository):
         """Its file that is proto2 isn't taken as a source file."""
         text = HEAD + 'import "google/protobuf/descriptor.proto"; message A { }'
         self.release({"a.proto": text}, {"a.proto": text})
-        self.assertEqual(self.call("v1", "proto"), (2, ["refused old E301 a.proto:2:8", "refused new E301 a.proto:2:8"]))
+        said = ["refused old E301 a.proto:2:8", "refused new E301 a.proto:2:8"]
+        self.assertEqual(self.call("v1", "proto", "--no-with-protoc"), (2, said))
         self.assertIn("a.proto:2:8 imports a file of the library that isn't below the folder, ", self.advice)
-        self.assertIn(" protoc may bring it: use --with-protoc\n", self.advice)
+        self.assertIn(" protoc may bring it: gate with protoc on the path, and without --no-with-protoc\n", self.advice)
+        self.assertEqual(self.types("v1", "proto"), (0, ["compatible A"]))
         self.assertEqual(self.types("v1", "proto", "--with-protoc"), (0, ["compatible A"]))
 
     def test_a_protoc_without_the_library(self):
@@ -333,7 +347,7 @@ class Faults(Repository):
     def test_one_side_by_protoc(self):
         self.release({"a.proto": HEAD + "message A { bytes a = 1 [ctype = CORD]; }"}, {"a.proto": HEAD + "message A { string a = 1; }"})
         status, said = self.call("v1", "proto", "--with-protoc")
-        self.assertEqual((status, said[0], said[2:]), (1, "cause value 3 0a0180 1 A.a - A.a a.proto:2:20", ["breaks A 3"]))
+        self.assertEqual((status, said[0], said[2:]), (1, "cause value 3 0a0180 1 A.a a.proto:2:19 A.a a.proto:2:20", ["breaks A 3"]))
 
     @NO_PROTOC
     def test_a_set_that_is_refused(self):
@@ -342,16 +356,17 @@ class Faults(Repository):
                        "message A { B b = 1; }")
         self.release({"a.proto": text, "b.proto": proto2}, {"a.proto": text, "b.proto": proto2})
         status, said = self.call("v1", "proto", "--with-protoc", "--skip", "b.proto")
-        self.assertEqual((status, said), (2, ["refused old E702 A"]))
+        self.assertEqual((status, said), (2, ["refused new import a.proto", "skipped b.proto"]))
 
     @NO_PROTOC
     def test_options_by_protoc(self):
         self.release_options()
         status, said = self.call("v1", "proto", "--with-protoc", "--github")
-        cause = "cause value 6 088080808008 1 shop.Order.weight - shop.Order.weight -"
+        named = "shop.Order.weight shop.proto:8:9 shop.Order.weight shop.proto:8:9"
+        cause = f"cause value 6 088080808008 1 {named}"
         self.assertEqual((status, said[0], said[2]), (1, cause, "breaks shop.Order 6"))
-        self.assertIn("::error file=proto/shop.proto,title=protogate%3A value shop.Order.weight::", said[3])
-        named = "breaks shop.Order 6 witness 088080808008 at shop.Order.weight - shop.Order.weight -"
+        self.assertIn("::error file=proto/shop.proto,title=protogate%3A value shop.Order.weight,line=8,col=9::", said[3])
+        named = f"breaks shop.Order 6 witness 088080808008 at {named}"
         self.assertEqual(self.call("v1", "proto", "--with-protoc", "shop.Order")[1][2:], [named])
 
     @NO_PROTOC
@@ -364,7 +379,7 @@ class Faults(Repository):
         said = ["refused old E205 a.proto:2:8", "refused old E301 b.proto:2:8"]
         self.assertEqual(self.call("HEAD", "proto", "--with-protoc"), (2, said + [it.replace("old", "new") for it in said]))
         self.assertIn("protoc refuses it on the old side, too: a.proto:2:", self.advice)
-        self.assertNotIn("use --with-protoc", self.advice)
+        self.assertNotIn("with protoc on the path", self.advice)
 
     def test_statuses(self):
         text = {"a.proto": HEAD + "message A { }"}

@@ -57,10 +57,10 @@ class Causes(unittest.TestCase):
     def test_what_the_reader_makes_of_it(self):
         """What a sentence says of the reader is what the reader may do: read nothing, another value, or refuse the message."""
         said = {it: causes.why({"case": it, "direction": "forward", "is_by_names": False}) for it in causes.WHY}
-        self.assertRegex(said["unlike"], "loses it, misreads it or refuses the message")
-        self.assertRegex(said["value"], "as another one, refuses it, or doesn't read it")
+        self.assertRegex(said["unlike"], "another kind of value .*, or writes it in another way: .* loses it, misreads it or refuses the message")
+        self.assertRegex(said["value"], r"as another one, or refuses it\.\Z")
         self.assertRegex(said["list-to-one"], "a packed list isn't read at all")
-        self.assertRegex(said["map"], "reads the entry with a default key or value, or loses it")
+        self.assertRegex(said["map"], "a default key or value, reads a string as a message or a message as a string, or refuses the message")
 
 
 class Lines(unittest.TestCase):
@@ -78,6 +78,8 @@ class Lines(unittest.TestCase):
         self.assertEqual(overview.causes[0]["fields"], [{"old": "M.a", "old_place": "a b:1:2 c.proto:3:4", "new": "M.a", "new_place": "x.proto:5:6"}])
         two = self.overview(f"{fields} {fields.replace('M.a', 'M.b')}", paths, "oneof")
         self.assertEqual([it["old"] for it in two.causes[0]["fields"]], ["M.a", "M.b"])
+        many = self.overview(" ".join(fields.replace("M.a", f"M.f{it}") for it in range(40)), paths, "oneof")
+        self.assertEqual([it["new"] for it in many.causes[0]["fields"]], [f"M.f{it}" for it in range(40)])
         path = "x:1:2 y 3:4:5 z.proto"
         found = self.overview(f"A.a {path}:2:10 B.a {path}:3:4", [[path], [path]]).causes[0]["fields"]
         self.assertEqual(found, [{"old": "A.a", "old_place": f"{path}:2:10", "new": "B.a", "new_place": f"{path}:3:4"}])
@@ -93,6 +95,12 @@ class Lines(unittest.TestCase):
         old, new = ["x", "x:1:2 B.b y"], ["y:3:4 B.b z", "z"]
         self.assertIsNone(cuts.fields_in("A.a x:1:2 B.b y:3:4 B.b z:5:6", old, new, 1))
         self.assertIsNotNone(cuts.fields_in("A.a x:1:2 B.b y:3:4 B.b z:5:6", old, new[1:], 1))
+        one, two = "A.a x:1:2 A.a y:3:4", "A.a x:1:2 A.a y:3:4 B.b x:5:6 B.b y:7:8"
+        self.assertIsNone(cuts.fields_in(one, ["x"], ["y"], 2, True))
+        self.assertIsNone(cuts.fields_in(two, ["x"], ["y"], 1))
+        self.assertEqual(len(cuts.fields_in(two, ["x"], ["y"], 2, True)), 2)
+        # one field on a long path, or two
+        self.assertIsNone(cuts.fields_in(two, ["x"], ["y", "y:3:4 B.b x:5:6 B.b y"], 1, True))
 
     def test_a_cause_of_a_compatible_type(self):
         fields = "A.a - A.a -"
@@ -219,13 +227,13 @@ class Told(test_ci.Repository):
 
     @NO_PROTOC
     def test_a_set_of_an_include(self):
-        """Its fields have no positions, and its file is shown where it is."""
+        """Its fields have their positions, and its file is shown where it is."""
         option = HEAD + 'import "google/protobuf/descriptor.proto"; extend google.protobuf.FieldOptions { string unit = 50001; }'
         text = HEAD + 'import "x/o.proto"; message S { int64 a = 1 [(unit) = "kg"]; }'
         self.write({"third/x/o.proto": option, "third/x/s.proto": text, "proto/a.proto": HEAD + 'import "x/s.proto"; message A { S s = 1; }'})
         self.release({}, {"../third/x/s.proto": text.replace("int64", "int32")})
         words = ("v1", "proto", "--include", "third", "--with-protoc")
-        self.assertIn("::error file=third/x/s.proto,title=protogate%3A value S.a::", "\n".join(self.call(*words, "--github")[1]))
+        self.assertIn(f"::error file=third/x/s.proto,title=protogate%3A value S.a,line=2,col={text.split(chr(10))[1].index('a = 1') + 1}::", "\n".join(self.call(*words, "--github")[1]))
         run = self.record(*words)
         (cause,) = run["causes"]
         self.assertEqual([cause["old_file"], cause["new_file"], run["outside"]], ["third/x/s.proto"] * 2 + [{"third/x/s.proto": "third/x/s.proto"}])

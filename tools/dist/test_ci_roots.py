@@ -7,6 +7,7 @@ A type that has an int64 on the old side and an int32 on the new one breaks. So 
 """
 
 import os
+import shutil
 import sys
 import unittest
 
@@ -82,8 +83,41 @@ class Roots(Trees):
         self.git("submodule", "--quiet", "deinit", "--force", "third/m")
         words = ("v1", "proto", "--include", "third")
         self.assertEqual(self.call(*words)[1], ["refused new E301 a.proto:2:8"])
-        self.assertEqual(self.types(*words, "--include", "two"), (2, ["refused new submodule m", "compatible A"]))
-        self.assertEqual(self.call(*words, "--include", "two", "--skip", "m")[0], 0)
+        self.assertEqual(self.types(*words, "--include", "two"), (2, ["refused new E301 a.proto:2:8", "refused new submodule m"]))
+        self.assertEqual(self.call(*words, "--include", "two", "--skip", "m"), (2, ["refused new E301 a.proto:2:8", "skipped m"]))
+
+    def test_the_library_in_place_of_what_is_closed(self):
+        """A link that leads out, or a submodule that isn't checked out, gives way to no file of the library, also where it is skipped."""
+        path = "google/protobuf/timestamp.proto"
+        text = HEAD + f'import "{path}"; message A {{ google.protobuf.Timestamp t = 1; }}'
+        for top, words, target in (("third", ("--include", "third"), "../../../evil.proto"), ("proto", ("--skip", "google"), "../../../evil.proto"),
+                                   ("third", ("--include", "third"), "gone.proto")):
+            shutil.rmtree(self.top)
+            self.write({"proto/a.proto": text, f"{top}/{path}": HEAD + "package google.protobuf; message Timestamp { int64 seconds = 1; }"})
+            self.commit()
+            self.write({"evil.proto": HEAD + "package google.protobuf; message Timestamp { string seconds = 1; }"})
+            os.remove(f"{self.top}/{top}/{path}")
+            self.link(target, f"{top}/{path}")
+            status, said = self.call("v1", "proto", *words)
+            self.assertEqual((status, said[0]), (2, "refused new E301 a.proto:2:8"), top)
+
+    def test_an_include_that_became_a_submodule(self):
+        """One that isn't checked out, or a folder below one, isn't a folder that came or went."""
+        library = f"{self.room.name}/library"
+        self.write({"m.proto": WIDE % "M", "src/m.proto": WIDE % "M"}, library)
+        self.commit(library)
+        self.write({"proto/a.proto": self.IMPORT, "third/m/m.proto": WIDE % "M", "two/a.txt": ""})
+        self.commit()
+        self.git("rm", "-q", "-r", "third", "two")
+        for path in ("third", "two"):
+            self.git("-c", "protocol.file.allow=always", "submodule", "--quiet", "add", library, path)
+        self.git("commit", "-q", "-m", "v2")
+        self.git("tag", "v2")
+        self.assertEqual(self.call("v2", "proto", "--include", "two/src"), (4, []))
+        self.assertIn("two/src is below two, which was a submodule: name that folder", self.advice)
+        self.git("submodule", "--quiet", "deinit", "--force", "third")
+        self.assertEqual(self.call("v1", "proto", "--include", "third"), (4, []))
+        self.assertIn("third is a submodule that isn't checked out", self.advice)
 
     def test_an_include_of_one_side(self):
         self.write({"proto/a.proto": HEAD + "message A { }"})
@@ -117,7 +151,7 @@ class Library(Trees):
 
     IMPORT = HEAD + 'import "google/protobuf/%s.proto"; message A { google.protobuf.L a = 1; int64 b = 2; }'
     TEXT = HEAD + "package google.protobuf; message L { }"
-    VALUE = "  The new program reads this value as another one, refuses it, or doesn't read it."
+    VALUE = "  The new program reads this value as another one, or refuses it."
 
     def protoc_of(self, texts):
         """Puts a protoc on the path, with a library beside it that has these source files."""
@@ -166,11 +200,11 @@ class Library(Trees):
             text = HEAD + f'import "{name}";'
             self.write({"proto/a.proto": text})
             self.commit()
-            self.assertEqual(self.call("v1", "proto"), (2, ["refused old E301 a.proto:2:8", "refused new E301 a.proto:2:8"]))
-            self.assertEqual("--with-protoc" in self.advice, name.startswith("google/protobuf/"), name)
+            self.assertEqual(self.call("v1", "proto", "--no-with-protoc"), (2, ["refused old E301 a.proto:2:8", "refused new E301 a.proto:2:8"]))
+            self.assertEqual("without --no-with-protoc" in self.advice, name.startswith("google/protobuf/"), name)
 
 
 if __name__ == "__main__":
     if len(sys.argv) > 1 and not sys.argv[1].startswith("-"):
         test_ci.PROGRAM = os.path.realpath(sys.argv.pop(1))
-    unittest.main()
+    test_ci.run_tests.main()

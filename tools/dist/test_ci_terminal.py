@@ -20,10 +20,14 @@ from test_ci import GATE, HEAD, TOP, Repository  # noqa: E402
 import excerpts  # noqa: E402
 
 SAID = f"{TOP}/examples/ci/said.py"
+# The same, with minutes instead of seconds until a run is said to be at work, or is no longer waited for: on a busy machine each may take those.
+PATIENT = f"import sys; sys.path.insert(0, {os.path.dirname(SAID)!r}); import said, shown; said.AT_WORK = shown.PATIENCE = 600; "
+PATIENT += "sys.exit(said.main(sys.argv[1:]))"
 
 
-def on_terminal(words, **how):
-    """Runs a program. Returns its status, what it printed, and what the terminal shows that is its standard error."""
+def on_terminal(words, seen=None, **how):
+    """Runs a program. Returns its status, what it printed, and what the terminal shows that is its standard error. A file is made as soon as that is
+    a line."""
     ours, theirs = pty.openpty()
     run = subprocess.Popen(words, stdin=subprocess.DEVNULL, stdout=subprocess.PIPE, stderr=theirs, **how)
     os.close(theirs)
@@ -31,6 +35,9 @@ def on_terminal(words, **how):
     with contextlib.suppress(OSError), open(ours, "rb", buffering=0) as terminal:
         while piece := terminal.read(4096):
             said += piece
+            if seen and b"\n" in said:
+                with open(seen, "w", encoding="utf-8"):
+                    pass
     printed = run.communicate()[0].decode()
     return run.returncode, printed, said.decode().replace("\r\n", "\n")
 
@@ -96,10 +103,11 @@ class Program(Repository):
 
     def shown(self, *words):
         """The status, what is printed, and what the terminal shows. The program by itself prints the same."""
-        status, printed, said = on_terminal([sys.executable, "-SB", SAID, test_ci.PROGRAM, *words], cwd=self.top)
+        status, printed, said = on_terminal([sys.executable, "-SB", "-c", PATIENT, test_ci.PROGRAM, *words], cwd=self.top)
         done = subprocess.run([test_ci.PROGRAM, *words], cwd=self.top, stdin=subprocess.DEVNULL, stdout=subprocess.PIPE, check=False)
         self.assertEqual((status, printed), (done.returncode, done.stdout.decode()))
-        return status, printed, said
+        # (a loaded machine may take over a second)
+        return status, printed, said.removeprefix(f"protogate: still at work: {words[0]}\n")
 
     def setUp(self):
         super().setUp()
@@ -118,6 +126,15 @@ class Program(Repository):
             self.assertEqual((status, printed.split()[-1]), (2, "n/m.proto:3:19" if words[0] == "types" else "m.proto:3:19"))
             self.assertTrue(said.startswith(wanted), said)
 
+    def test_a_position_in_an_included_folder(self):
+        """It is that of the file which the program read."""
+        os.makedirs(f"{self.top}/dangling")
+        os.symlink("nowhere", f"{self.top}/dangling/m.proto")
+        for words in (("--dir=dangling", "--include=n"), ("--dir=nowhere/../o", "--include", "n/."), ("--dir=none", "--include=dangling", "--include=n")):
+            status, printed, said = self.shown("types", *words, "m.proto")
+            self.assertEqual((status, printed), (2, "refused E401 m.proto:3:19\n"))
+            self.assertIn(" --> n/m.proto:3:19\n  |\n3 | message A { int32 a = 0; }\n", said)
+
     def test_other_errors(self):
         show = ("show", "--dir=o", "--file=m.proto", "--type=shop.Account")
         for words, sentence, place in (((*show, "08"), "E502]: The input ends inside the record or varint.", " --> byte 0"),
@@ -127,6 +144,22 @@ class Program(Repository):
             lines = self.shown(*words)[2].splitlines()
             self.assertEqual(lines[0], f"error[{sentence}")
             self.assertTrue(lines[1].startswith(place), lines)
+
+    def test_lists_of_files(self):
+        """They are found from the current folder, wherever their side is."""
+        self.write({"none": "\n\r\n", "bad": b"m.proto\n\xc3\xa9 \xff\n"})
+        self.assertEqual(self.shown("types", "--dir=o", "--files-from", "bad", "m.proto"), (2, "refused E906 bad:2:4\n", """\
+error[E906]: The list of files isn't UTF-8.
+ --> bad:2:4
+  |
+2 | \u00e9 \\xff
+  |   ^
+  = help: Save the list as UTF-8.
+"""))
+        help_ = "  = help: Name a file of the side, or write one into each line of its list.\n"
+        for words, rest, place in ((("gate-all", "--old-dir=o", "--old-files-from=none", "--new=n"), " none", " --> none\n"), (("gate-all",), "", "")):
+            self.assertEqual(self.shown(*words), (4, f"refused old E907{rest}\n", f"error[E907]: No file is named.\n{place}{help_}"))
+        self.assertEqual(self.shown("types", "--help")[::2], (4, ""))
 
     def test_a_name_that_is_not_there(self):
         sides = ("--old-dir=o", "--new-dir=o", "--old=m.proto", "--new=m.proto")
@@ -156,23 +189,24 @@ class Program(Repository):
 class Started(unittest.TestCase):
     """How said.py starts a program, and ends with it."""
 
-    # Waits until what a shell has started is stopped.
-    STOPS = "for turn in 1 2 3 4 5 6 7 8 9 10; do case $(ps -o stat= -p $!) in T*) break ;; esac; sleep 1; done"
+    # Waits until what a shell has started is stopped, and until a file is there.
+    STOPS = "for turn in $(seq 600); do case $(ps -o stat= -p $!) in T*) break ;; esac; sleep 0.2; done"
+    IS_THERE = "for turn in $(seq 600); do [ ! -e %s ] || break; sleep 0.2; done"
 
-    def started(self, does, calls=""):
-        """What a shell prints, and what its terminal shows, that starts a program which does this, and then calls."""
+    def started(self, does, calls="", said=f'-c "{PATIENT}"'):
+        """What a shell prints, and what its terminal shows, that starts a program which does this, and then calls. There ROOM is a folder."""
         with tempfile.TemporaryDirectory() as room:
             with open(f"{room}/program", "w", encoding="utf-8") as file:
-                file.write(f"#!/bin/sh\n{does}\n")
+                file.write(f"#!/bin/sh\n{does}\n".replace("ROOM", room))
             os.chmod(f"{room}/program", 0o755)
-            start = f"'{sys.executable}' -SB '{SAID}' '{room}/program' gate 'a b'"
-            return on_terminal(["sh", "-c", calls.replace("START", start) or f"exec {start}"])
+            start = f"'{sys.executable}' -SB {said} '{room}/program' gate 'a b'"
+            return on_terminal(["sh", "-c", calls.replace("START", start).replace("ROOM", room) or f"exec {start}"], seen=f"{room}/seen")
 
     def test_status_and_words(self):
         self.assertEqual(self.started('printf "%s|" "$@"; exit 7'), (7, "gate|a b|", ""))
 
     def test_at_work(self):
-        self.assertEqual(self.started("exec sleep 1.6"), (0, "", "protogate: still at work: gate\n"))
+        self.assertEqual(self.started(self.IS_THERE % "ROOM/seen", said=f"'{SAID}'"), (0, "", "protogate: still at work: gate\n"))
 
     def test_a_signal_that_ends_it(self):
         self.assertEqual(self.started("kill -KILL $$"), (-signal.SIGKILL, "", ""))
@@ -183,12 +217,13 @@ class Started(unittest.TestCase):
             signal.signal(signal.SIGHUP, signal.SIG_DFL)
             self.addCleanup(signal.signal, signal.SIGHUP, signal.SIG_IGN)
         for name in ("TERM", "HUP"):
-            self.assertEqual(self.started("exec sleep 20", f"START & sleep 0.7; kill -{name} $!; wait $!; echo $?")[1],
-                             f"{128 + getattr(signal, 'SIG' + name)}\n", name)
+            calls = f"START & {self.IS_THERE % 'ROOM/begun'}; kill -{name} $!; wait $!; echo $?"
+            self.assertEqual(self.started(": >ROOM/begun; exec sleep 300", calls)[1], f"{128 + getattr(signal, 'SIG' + name)}\n", name)
 
     def test_a_program_that_stops(self):
         """It is stopped with what started it, isn't said to be at work, and goes on with it."""
-        self.assertEqual(self.started("kill -STOP $$; exit 5", f"START & {self.STOPS}; sleep 1.5; kill -CONT $!; wait $!; echo $?"), (0, "5\n", ""))
+        calls = f"START & {self.STOPS}; kill -ALRM $!; kill -CONT $!; wait $!; echo $?"
+        self.assertEqual(self.started("kill -STOP $$; exit 5", calls), (0, "5\n", ""))
 
     def test_a_second_run_that_says_something_else(self):
         """Only a run that ends with the same status is believed."""
@@ -199,4 +234,4 @@ class Started(unittest.TestCase):
 if __name__ == "__main__":
     if len(sys.argv) > 1 and not sys.argv[1].startswith("-"):
         test_ci.PROGRAM = os.path.realpath(sys.argv.pop(1))
-    unittest.main()
+    test_ci.run_tests.main()

@@ -80,7 +80,7 @@ class Submodules(Trees):
         self.assertEqual(self.types("v1", "proto"), (2, ["refused new submodule lib", "compatible A"]))
         self.assertIn("proto/lib is a submodule that isn't checked out: git submodule update --init proto/lib, or ", self.advice)
         self.assertEqual(self.types("v1", "proto", "A"), (2, ["refused new submodule lib", "compatible A"]))
-        self.assertEqual(self.types("v1", "proto", "--skip", "lib"), (0, ["compatible A"]))
+        self.assertEqual(self.types("v1", "proto", "--skip", "lib"), (0, ["skipped lib", "compatible A"]))
         self.assertNotIn("names nothing", self.advice)
 
     def test_a_clone_without_submodules(self):
@@ -113,7 +113,7 @@ class Links(Trees):
         self.link("../real", "proto/v1/common")
         self.commit()
         self.write({"proto/real/a.proto": NARROW % "A"})
-        self.assertEqual(self.broken("v1", "proto"), ["real/a.proto", "v1/common/a.proto"])
+        self.assertEqual(self.broken("v1", "proto"), ["real/a.proto"])
         self.assertEqual(self.broken("v1", "proto", "--skip", "real/"), ["v1/common/a.proto"])
 
     def test_a_file(self):
@@ -130,7 +130,7 @@ class Links(Trees):
         said = [f"refused {side} link {it}" for side in ("old", "new") for it in paths]
         self.assertEqual(self.types("v1", "proto"), (2, [*said, "compatible p.Keep"]))
         skipped = [word for it in paths for word in ("--skip", it)]
-        self.assertEqual(self.types("v1", "proto", *skipped), (0, ["compatible p.Keep"]))
+        self.assertEqual(self.types("v1", "proto", *skipped), (0, [*(f"skipped {it}" for it in paths), "compatible p.Keep"]))
 
     def test_absolute(self):
         self.write({"today/a.proto": NARROW % "A", "proto/in/b.proto": WIDE % "B"}, self.room.name)
@@ -139,6 +139,14 @@ class Links(Trees):
         self.refuse(["file.proto", "folder"])
         self.call("v1", "proto")
         self.assertIn("gate: proto/folder is a link that leads out of the folder: ", self.advice)
+
+    def test_one_by_an_absolute_path_into_the_folder(self):
+        """Such a path is another one for each program, or on each side."""
+        self.write({"proto/in/a.txt": WIDE % "A"})
+        self.link("/proc/self/cwd/in/a.txt", "proto/by_cwd.proto")
+        self.link(f"{self.top}/proto/in", "proto/by_top")
+        self.link("by_top/a.txt", "proto/by_both.proto")
+        self.refuse(["by_both.proto", "by_cwd.proto", "by_top"])
 
     def test_one_that_leads_out(self):
         self.write({"elsewhere/a.proto": WIDE % "A", "LICENSE": "mine"})
@@ -154,7 +162,7 @@ class Links(Trees):
         self.link("../../LICENSE", "proto/real/LICENSE")
         self.link("real", "proto/v1")
         self.commit()
-        self.assertEqual(self.types("v1", "proto"), (0, ["compatible p.A", "compatible p.A"]))
+        self.assertEqual(self.types("v1", "proto"), (0, ["compatible p.A"]))
 
     def test_an_import_by_one_that_leads_out(self):
         """What an old source file imports is what it was, and not today's file."""
@@ -184,7 +192,31 @@ class Links(Trees):
         os.rename(f"{self.top}/proto/a", f"{self.top}/proto/b")
         self.write({"proto/b/t.proto": NARROW % "A"})
         self.link("b", "proto/a")
-        self.assertEqual(self.broken("v1", "proto"), ["a/t.proto", "b/t.proto"])
+        self.assertEqual(self.broken("v1", "proto"), ["b/t.proto"])
+
+    def test_one_that_leads_elsewhere_now(self):
+        """A path is gated as what it was and what it is, however many paths lead to either."""
+        self.write({"proto/one/deep/a.proto": WIDE % "A", "proto/two/deep/a.proto": NARROW % "A"})
+        self.link("one", "proto/links")
+        self.commit()
+        self.assertEqual(self.types("v1", "proto"), (0, ["compatible p.A", "compatible p.A"]))
+        os.remove(f"{self.top}/proto/links")
+        self.link("two", "proto/links")
+        self.assertEqual(self.broken("v1", "proto"), ["two/deep/a.proto"])
+        # It is gone, so what it had is compared with each that is left.
+        os.remove(f"{self.top}/proto/links")
+        self.assertEqual(self.broken("v1", "proto"), ["two/deep/a.proto"])
+
+    def test_one_inside_a_linked_folder(self):
+        """A link inside a folder that another link leads to leads elsewhere."""
+        self.write({"proto/one/a.proto": WIDE % "A", "proto/two/a.proto": NARROW % "A", "proto/first/x": "", "proto/second/x": ""})
+        self.link("../one", "proto/first/in")
+        self.link("../two", "proto/second/in")
+        self.link("first", "proto/links")
+        self.commit()
+        os.remove(f"{self.top}/proto/links")
+        self.link("second", "proto/links")
+        self.assertEqual(self.broken("v1", "proto"), ["two/a.proto"])
 
 
 class Namesakes(Trees):
@@ -252,7 +284,7 @@ class Names(Trees):
         status, said = self.call("v1", "proto", "--github")
         self.assertEqual([it.partition(" ")[0] for it in said[7:]], ["::error"] * 6)
         skipped = [word for it in shown for word in ("--skip", it)]
-        self.assertEqual(self.types("v1", "proto", *skipped), (0, ["compatible p.Keep"]))
+        self.assertEqual(self.types("v1", "proto", *skipped), (0, [*(f"skipped {it}" for it in shown), "compatible p.Keep"]))
 
     def test_no_regular_files(self):
         """They aren't opened, by an import either."""
@@ -379,9 +411,9 @@ class Unseen(Trees):
 
     def test_what_git_lists_of_the_old_side(self):
         for mode in ("100644 blob", "120000 blob"):
-            said = self.with_git("ls-tree -r", f"printf '{mode} 0123\tb.proto\\0'")
+            said = self.with_git("ls-tree -r", f"printf '{mode} 0123\tproto/b.proto\\0'")
             self.assertEqual(said, (2, ["refused old unseen b.proto", "compatible p.A"]))
-        said = self.with_git("ls-tree -r", "printf '120000 blob 0123\tfolder\\0'")
+        said = self.with_git("ls-tree -r", "printf '120000 blob 0123\tproto/folder\\0'")
         self.assertEqual(said, (2, ["refused old unseen folder", "compatible p.A"]))
 
     def test_what_git_lists_of_the_new_side(self):
@@ -492,4 +524,4 @@ class Together(Trees):
 if __name__ == "__main__":
     if len(sys.argv) > 1 and not sys.argv[1].startswith("-"):
         test_ci.PROGRAM = os.path.realpath(sys.argv.pop(1))
-    unittest.main()
+    test_ci.run_tests.main()

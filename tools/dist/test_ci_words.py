@@ -24,7 +24,7 @@ import places  # noqa: E402
 import settings  # noqa: E402
 import wording  # noqa: E402
 
-FAR = "2999-12-31"
+FAR = (datetime.date.today() + datetime.timedelta(days=366)).isoformat()
 
 
 class Repository(test_ci.Repository):
@@ -36,8 +36,20 @@ class Repository(test_ci.Repository):
         self.said = said
         return [it.partition("gate: warning: ")[2] for it in self.advice.splitlines() if it.startswith("gate: warning: ")]
 
+    # Where the settings are from, once they are settled.
+    base = ()
+
     def settle(self, text):
+        """Has the work tree these settings, and so a commit, which is the base of calls."""
         self.write({"protogate.ini": text})
+        blob = self.git("hash-object", "-w", "--no-filters", "protogate.ini")
+        listed = f"100644 blob {blob}\tprotogate.ini\n".encode()
+        made = subprocess.run(["git", "mktree"], cwd=self.top, env=self.env, input=listed, check=True, stdout=subprocess.PIPE)
+        self.git("update-ref", "refs/heads/settled", self.git("commit-tree", made.stdout.decode().strip(), "-m", "settled"))
+        self.base = ("--base", "settled")
+
+    def call(self, *words, **more):
+        return super().call(*self.base, *words, **more)
 
     def page(self, *words, **more):
         self.record(*words, **more)
@@ -91,7 +103,7 @@ class Oneofs(Repository):
     def test_a_line(self):
         self.release_prices()
         said = [f"cause oneof 4 08011001 1 {' '.join(self.fields)}",
-                "  The new side has both fields in one oneof: the new program keeps the last of them alone.", "breaks Price 4"]
+                "  The new side has these fields in one oneof: of those that are set, the new program keeps the last one that it can read.", "breaks Price 4"]
         self.assertEqual(self.call("v1", "proto"), (1, said))
         said[2] = f"breaks Price 4 witness 08011001 at {' and '.join(self.fields)}"
         self.assertEqual(self.call("v1", "proto", "Price"), (1, said))
@@ -101,14 +113,14 @@ class Oneofs(Repository):
         found = [it for it in self.call("v1", "proto", "--github")[1] if it.startswith("::error ")]
         self.assertEqual(len(found), 1)
         named = " and ".join(f"{name} ({place})" for name, place in zip(self.names, self.places))
-        self.assertIn("::The new side has both fields in one oneof: the new program keeps the last of them alone.%0A", found[0])
+        self.assertIn("::The new side has these fields in one oneof: of those that are set, the new program keeps the last one that it can read.%0A", found[0])
         self.assertIn(f"%0AThe fields are {named}.%0A", found[0])
 
     def test_the_page(self):
         self.release_prices()
         page = self.page("v1", "proto")
         self.assertIn(f"{' and '.join(self.names)}", page)
-        self.assertIn("The new side has both fields in one oneof", page)
+        self.assertIn("The new side has these fields in one oneof", page)
 
     def test_a_way_through_messages(self):
         """Two steps of which the second is inside the first are no oneof, also where both types have one name but for their scope."""
@@ -271,7 +283,7 @@ class Settings(Repository):
     def test_a_skip(self):
         self.release_two()
         self.settle(self.skip("Draft", FAR))
-        self.assertEqual(self.call(), (0, ["compatible 1 type"]))
+        self.assertEqual(self.call(), (0, [f"skipped Draft until {FAR}", "compatible 1 type"]))
         self.assertEqual(self.advice, "")
 
     def test_a_skip_that_is_over(self):
@@ -326,7 +338,7 @@ class Settings(Repository):
                 ("[gate]\nview = all\n", 2, "view is numbers or names, not all"), ("[gate]\nfolder =\n", 2, "folder says nothing"),
                 ("folder = proto\n", 1, "this is no setting"), ("[gate]\nfolder proto\n", 2, "this is no setting"),
                 ("[gate]\nfolder = a\nfolder = b\n", 3, "this is no setting"), ("[gate]\n[gate]\n", 2, "this is no setting"),
-                (b"[gate]\nfolder = \xff\n", 1, "isn't UTF-8"), ("[skip ]\nreason = a\n", 1, "no section [skip ]"),
+                (b"[gate]\nfolder = \xff\n", 2, "isn't UTF-8"), ("[skip ]\nreason = a\n", 1, "no section [skip ]"),
                 ("[skip A]\nreason = a\n", 1, "the skip of A has no until"), ("[skip A]\nuntil = 2020-01-01\n", 1, "the skip of A has no reason"),
                 ("[skip A]\nreason = a\n\nuntil = 31.12.2026\n", 4, "until is a day such as 2026-12-31, not 31.12.2026"),
                 ("[skip A]\nreason = a\nuntil = 2023-02-29\n", 3, "not 2023-02-29"), ("[skip A]\nreason = a\nday = 1\n", 3, "no key day in [skip A]")):
@@ -336,17 +348,24 @@ class Settings(Repository):
             self.assertIn(words, self.advice)
 
     def test_settings_that_are_not_read(self):
-        """What the repository has, and the work tree hasn't as a file, isn't passed over."""
+        """What the repository has, and the work tree hasn't as a file, isn't passed over: it counts as it was at the base."""
         self.release_two()
-        self.settle("[gate]\nview = names\n")
+        self.write({"protogate.ini": "[gate]\nview = names\n"})
         self.git("add", "-A")
         self.git("commit", "-q", "-m", "v3")
         self.git("sparse-checkout", "set", "--no-cone", "/proto/*")
-        self.assertEqual(self.call("v2", "proto"), (4, []))
-        self.assertIn("gate: protogate.ini isn't in this sparse checkout", self.advice)
+        self.assertFalse(os.path.lexists(f"{self.top}/protogate.ini"))
+        self.assertEqual(self.record("--base", "HEAD", "v2", "proto")["view"], "names")
+        self.assertEqual(self.advice, "")
         os.symlink("gone.ini", f"{self.top}/protogate.ini")
-        self.assertEqual(self.call("v2", "proto"), (4, []))
-        self.assertIn("gate: protogate.ini is no file", self.advice)
+        self.assertEqual(self.record("--base", "HEAD", "v2", "proto")["view"], "names")
+        self.assertIn("gate: protogate.ini of the work tree isn't read: it differs from that of HEAD", self.advice)
+        self.assertEqual(self.call("--settings", "protogate.ini", "v2", "proto"), (4, []))
+        self.assertIn("gate: --settings: protogate.ini can't be read", self.advice)
+        self.git("add", "--sparse", "-A")
+        self.git("commit", "-q", "-m", "v4")
+        self.assertEqual(self.call("--base", "HEAD", "v2", "proto"), (4, []))
+        self.assertIn("gate: protogate.ini is no file at HEAD", self.advice)
 
     def test_includes(self):
         """They count from the top of the repository."""
@@ -361,8 +380,7 @@ class Settings(Repository):
     def test_the_settings_of_the_page(self):
         """What docs/CI.md shows is what the script takes."""
         shown = re.search(r"^```ini\n(.*?)^```", read("docs/CI.md"), re.S | re.M)[1]
-        self.write({"protogate.ini": shown})
-        taken = settings.Settings(f"{self.top}/protogate.ini")
+        taken = settings.Settings(shown.encode(), today=datetime.date(2026, 11, 1))
         self.assertEqual(set(taken.said), set(settings.GATE_KEYS))
         self.assertEqual(len(taken.skips), 1)
 
@@ -388,7 +406,8 @@ class Records(Repository):
         self.call("v1", "proto", "--record", "run.json")
         with open(f"{self.top}/run.json", encoding="utf-8") as file:
             whole = json.load(file)
-        for key in set(whole) - {"status"}:
+        # (two came within version 2)
+        for key in set(whole) - {"base", "settings"}:
             self.report({name: it for name, it in whole.items() if name != key})
         for key in ("folder", "causes", "answers", "warnings", "refusals", "view"):
             run = {name: it for name, it in whole["runs"][0].items() if name != key}
@@ -416,6 +435,7 @@ class Records(Repository):
             found.append(set().union(*run["answers"]))
             self.assertEqual({it["verdict"] for it in run["answers"]}, {"breaks", "removed"})
             for heading, told in (("The record", record), ("A skip", record["skips"][0]), ("A run", run), ("A cause", run["causes"][0]),
+                                  ("A skip that took effect", run["skipped"][0]),
                                   ("A field", run["causes"][0]["fields"][0]), ("A refusal", set().union(*run["refusals"])),
                                   ("A warning", run["warnings"][0])):
                 self.assertEqual(set(told), keys[heading], heading)
@@ -445,4 +465,4 @@ class Records(Repository):
 if __name__ == "__main__":
     if len(sys.argv) > 1 and not sys.argv[1].startswith("-"):
         test_ci.PROGRAM = os.path.realpath(sys.argv.pop(1))
-    unittest.main()
+    test_ci.run_tests.main()

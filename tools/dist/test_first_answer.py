@@ -1,7 +1,8 @@
 #!/usr/bin/env python3
 """Tests of what `protogate` at the top does where the program isn't built, or isn't that of the sources: tools/dist/first_answer.py.
 
-usage: tools/dist/test_first_answer.py [PROGRAM]    by default the program that was built; without `rt` on the path a part is passed over
+usage: tools/dist/test_first_answer.py [--without-kit] [PROGRAM]    by default the program that was built; without `rt` on the path, or with
+--without-kit, a part is passed over
 
 Most tests have a stand-in for `rt`, which runs PROGRAM as `rt try` runs what it compiled: in a new folder, without environment, beside
 copies of the files that it is given. What is wanted is what PROGRAM says where it is called itself. A build of the kit's `rt try` then
@@ -22,7 +23,8 @@ import unittest
 sys.dont_write_bytecode = True
 from call_files import call_of, copied, imports_in  # noqa: E402
 from first_answer import SECONDS  # noqa: E402
-from trial_checkout import FIRST_PAGE, TOP, Checkout, Compared, KitCheckout, is_alive, read, run_tests, stand_in, write  # noqa: E402
+from trial_checkout import (  # noqa: E402
+    FIRST_PAGE, TOP, Checkout, Compared, KitCheckout, files_below, is_alive, read, run_tests, stand_in, told, write)
 
 HEAD = 'syntax = "proto3";\n'
 OLD, NEW = HEAD + "message M { bytes a = 1; }\n", HEAD + "message M { string a = 1; }\n"
@@ -131,6 +133,53 @@ class Folders(Compared):
         self.same("compile", "--dir", "side", "link.proto", status=0)
         self.same("compile", "--dir", "side", "broken.proto", status=2)
         self.same("compile", "--dir", "side", "circle.proto", status=3)
+
+    def test_included_folders(self):
+        self.write({"a/m.proto": HEAD + 'import "n.proto";\n', "b/n.proto": OLD, "c/n.proto": NEW, "c/o.proto": NEW, "d/n.proto/x": "",
+                    "n.proto": HEAD, "e/m.proto": OLD})
+        os.makedirs(f"{self.folder}/f")
+        os.symlink("nowhere", f"{self.folder}/f/m.proto")
+        for words, status in ((["--include=b", "--include", "c"], 0), (["--include", "c", "--include=b"], 0), (["--include=d", "--include=b"], 3),
+                              (["--include=none", "--include=b"], 0), (["--include=none/../b"], 2), (["--include", f"{self.folder}/b"], 0),
+                              (["--include="], 2), ([], 2)):
+            self.same("compile", "--dir=a", *words, "m.proto", status=status)
+        self.same("types", "--dir=f", "--include=e", "m.proto", status=0)
+        self.same("types", "--include=b", "n.proto", status=0)
+        self.same("types", "--dir=a", "--include=", f"{self.folder}/b/n.proto"[1:], status=0)
+        sides = ["--old-dir=b", "--old-include=e", "--new-dir=a", "--new-include=b", "--new-include=c", "--old=m.proto"]
+        self.same("gate", *sides, "--new=o.proto", "--type=M", status=1)
+        self.same("gate-all", *sides, "--new=n.proto", status=0)
+
+    def test_lists_of_files(self):
+        self.write({"p/m.proto": HEAD + 'import "n.proto";\n', "p/n.proto": OLD, "q/o.proto": HEAD + "message O {}\n", "q/m.proto": NEW,
+                    "all": "m.proto\r\n\no.proto", "deep/two": "o.proto\n", "none": "\n\r\n", "bad": b"m.proto\n\xc3(\n", "set": "m.pb\n",
+                    "spaced": "m.proto \n", "-": "o.proto\n", "f/x": "", "p/all": "n.proto\n"})
+        self.write({"p/m.pb": self.same("compile", "--dir=p", "m.proto", status=0)})
+        for name in ("compile", "types"):
+            for words, status in ((["--files-from=all"], 0), (["--files-from", "all", "n.proto"], 0), (["--files-from=deep/two", "m.proto"], 0),
+                                  (["--files-from", f"{self.folder}/all"], 0), (["--files-from=../work/all"], 0), (["--files-from=-"], 0),
+                                  (["--files-from=spaced"], 2), (["--files-from=gone"], 2), (["--files-from=gone", "m.proto"], 2),
+                                  (["--files-from="], 2), ([f"--files-from={self.folder}/gone"], 2), (["--files-from=../gone"], 2),
+                                  (["--files-from=f"], 3), (["--files-from=bad"], 2), (["--files-from=none"], 4), (["--files-from=none", "m.proto"], 4),
+                                  (["--files-from=all", "--files-from=all"], 4), ([], 4), (["--files-from=all/", "m.proto"], 2)):
+                self.same(name, "--dir=p", "--include=q", *words, status=status)
+        self.same("types", "--dir=p", "--files-from=set", status=0)
+        self.same("types", "--dir=p", "--files-from=set", "n.proto", status=2)
+        sides = ["gate-all", "--old-dir=p", "--new-dir=q", "--old-include=q"]
+        for words, status in ((["--old-files-from=all", "--new=m.proto", "--new-files-from=deep/two"], 1), (["--old-files-from=all", "--new=gone"], 2),
+                              (["--old=n.proto", "--new-files-from=all"], 1), (["--old=n.proto", "--new-files-from=bad"], 2),
+                              (["--old-files-from=gone", "--new-files-from=bad"], 2), (["--old-files-from=all", "--new-files-from=none"], 4),
+                              (["--old-files-from=none", "--new=m.proto"], 4), (["--old-files-from=all"], 4), (["--new-files-from=gone"], 4),
+                              (["--old=gone", "--new-files-from=f"], 3), ([], 4)):
+            self.same(*sides, *words, status=status)
+
+    def test_a_list_outside_that_is_printed(self):
+        """It can't be handed over by its own name, and by no other, since the program prints it."""
+        self.write({"deep/m.proto": OLD, "bad": b"\xff", "none": "\n"})
+        for name in ("bad", "none"):
+            for path in (f"../{name}", f"{self.folder}/{name}"):
+                self.assertEqual(self.call("types", f"--files-from={path}", "m.proto", at=f"{self.folder}/deep"), (3, b""))
+                self.assertIn(path, self.lines[1])
 
     def test_what_is_missing_or_no_file(self):
         self.write({"m.proto": HEAD + 'import "none.proto";\n', "n.proto": HEAD + 'import "f.proto";\n', "f.proto/x": "", "o.proto": OLD})
@@ -276,25 +325,11 @@ class Running(Checkout):
         calls = [subprocess.Popen(words, **how) for _ in range(5)]
         self.assertEqual([(it.communicate()[0], it.returncode) for it in calls], [(b"M\n", 0)] * 5)
 
-    def test_a_checkout_that_cannot_be_written(self):
-        before = {at: sorted(files) for at, _, files in os.walk(self.top)}
+    def test_that_no_file_is_left(self):
         self.call("--help")
-        self.assertEqual({at: sorted(files) for at, _, files in os.walk(self.top)}, before)
-
-    def told(self, number):
-        """Starts a call, ends it by a signal, and returns what it began, and its status."""
-        self.says("wait")
-        how = {"env": self.env, "stdin": subprocess.DEVNULL, "stdout": subprocess.DEVNULL, "stderr": subprocess.DEVNULL}
-        call = subprocess.Popen([f"{self.top}/protogate", "--help"], start_new_session=True, **how)
-        self.addCleanup(call.kill)
-        began = f"{self.kit}/began"
-        while not os.path.exists(began) or not read(began):
-            time.sleep(0.02)
-        call.send_signal(number)
-        status = call.wait(20)
-        pids = list(map(int, read(began).split()))
-        os.remove(began)
-        return pids, status
+        before = files_below(self.top)
+        self.assertEqual(self.call("--help")[0], 4)
+        self.assertEqual(files_below(self.top), before)
 
     def test_signals(self):
         for number in (signal.SIGINT, signal.SIGTERM, signal.SIGHUP):
@@ -302,7 +337,7 @@ class Running(Checkout):
             if signal.getsignal(number) is signal.SIG_IGN:
                 signal.signal(number, signal.SIG_DFL)
                 self.addCleanup(signal.signal, number, signal.SIG_IGN)
-            pids, status = self.told(number)
+            pids, status = told(self, "wait", number)
             self.assertEqual(status, -number)
             self.assertEqual([it for it in pids if is_alive(it)], [])
             # The stand-in was killed before it could remove its own folder, and that too is gone.

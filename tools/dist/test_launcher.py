@@ -1,48 +1,90 @@
 #!/usr/bin/env python3
-"""Tests of what `protogate` at the top starts: the program that was built and proved, unless its sources or the kit have changed since.
+"""Tests of what `protogate` at the top starts: the program that was built and proved, unless its sources or the kit have changed since. Then it is
+the one that was compiled without proof, unless they have changed since that.
 
 usage: tools/dist/test_launcher.py
 """
 
+import hashlib
 import os
 import shutil
 import subprocess
 import sys
 import time
 import unittest
+import unittest.mock
 
 sys.dont_write_bytecode = True
 sys.path.append(f"{os.path.dirname(os.path.realpath(__file__))}/../gate")
 import stamp  # noqa: E402
-from trial_checkout import Checkout, write  # noqa: E402
+from trial_checkout import Checkout, run_tests, write  # noqa: E402
 
 
-class Built(Checkout):
-    """The built program is started, and nothing else, unless what it was built of has changed since. To the system each source is as new as the test, as
-    in a checkout that was copied with its times, so the contents decide where no time does."""
+class Program(Checkout):
+    """A checkout with programs of its sources, whose times are those of a while ago."""
 
     def setUp(self):
         super().setUp()
-        self.out = f"{self.top}/crates/protogate/out"
-        write(f"{self.out}/protogate", "#!/bin/sh\necho built; exit 7\n", 0o755)
-        os.symlink(f"{self.kit}/rt", f"{self.out}/protogate.kit")
-        write(f"{self.out}/protogate.begun", "stand-in\n")
-        write(f"{self.out}/protogate.sum", f"{stamp.sum_of(self.top)}  -\n")
-        self.age(self.top, self.kit)
-        os.utime(f"{self.out}/protogate.begun", (time.time() - 50, time.time() - 50))
-        self.env["PROTOGATE_PROVED_ONLY"] = "1"
-        self.is_built()
+        self.built = f"{self.top}/crates/protogate/out"
+
+    def build(self, folder, words):
+        """Puts a program into a folder, and what is beside it."""
+        write(f"{folder}/protogate", words, 0o755)
+        os.symlink(f"{self.kit}/rt", f"{folder}/protogate.kit")
+        with open(f"{self.kit}/rt", "rb") as file:
+            number, checksum = os.fstat(file.fileno()).st_ino, hashlib.sha256(file.read()).hexdigest()
+        write(f"{folder}/protogate.begun", f"stand-in\n{number} {checksum}\n")
+        write(f"{folder}/protogate.sum", f"{stamp.sum_of(self.top)}  -\n")
+
+    def build_proved(self, words="#!/bin/sh\necho built; exit 7\n"):
+        self.build(self.built, words)
+        self.age()
+
+    def build_unproved(self, words="#!/bin/sh\necho built; exit 7\n"):
+        self.build(f"{self.built}/unproved-1", words)
+        os.symlink("unproved-1", f"{self.built}/unproved")
+        self.age()
 
     def age(self, *folders):
         """Makes all as old as it is in a checkout that was built a while ago."""
-        for folder in folders:
+        for folder in folders or (self.top, self.kit):
             for at, inside, files in os.walk(folder):
                 for it in [at, *(f"{at}/{name}" for name in files)]:
                     os.utime(it, (time.time() - 100, time.time() - 100), follow_symlinks=not os.path.islink(it))
+        if not folders:
+            self.renew()
+
+    def renew(self, seconds=-50):
+        """Makes the programs younger than what they were built of: as if that had been read so many seconds from now."""
+        for it in (self.built, f"{self.built}/unproved"):
+            if os.path.exists(f"{it}/protogate.begun"):
+                self.touch(f"{it}/protogate.begun", seconds)
+
+    def touch(self, path, seconds):
+        """Gives a file the time of so many seconds from now. Two files that get the time of a moment may get the same: a system's clock has steps."""
+        os.utime(path, (time.time() + seconds,) * 2)
+
+
+class Built(Program):
+    """The built program is started, and nothing else, unless what it was built of has changed since. To the system each source is as new as the test, as
+    in a checkout that was copied with its times, so the contents decide where no time does."""
+
+    # The lines that a call says on standard error.
+    lines_said = 0
+
+    def setUp(self):
+        super().setUp()
+        self.build_one()
+        self.is_built()
+
+    def build_one(self):
+        self.out = self.built
+        self.build_proved()
+        self.env["PROTOGATE_PROVED_ONLY"] = "1"
 
     def is_built(self, **more):
         self.assertEqual(self.call("--help", **more), (7, b"built\n"), self.lines)
-        self.assertEqual(self.lines, [])
+        self.assertEqual(len(self.lines), self.lines_said, self.lines)
 
     def is_stale(self, **more):
         self.assertEqual(self.call("--help", **more), (127, b""))
@@ -50,8 +92,9 @@ class Built(Checkout):
     def test_from_anywhere(self):
         os.symlink(f"{self.top}/protogate", f"{self.room}/link")
         for words in ([f"{self.room}/link"], ["sh", f"{self.top}/protogate"], ["../protogate"], ["sh", "../protogate"]):
-            done = subprocess.run(words, cwd=f"{self.top}/crates", env=self.env, stdout=subprocess.PIPE, check=False)
-            self.assertEqual((done.returncode, done.stdout), (7, b"built\n"), words)
+            how = {"cwd": f"{self.top}/crates", "env": self.env, "stdout": subprocess.PIPE, "stderr": subprocess.PIPE}
+            done = subprocess.run(words, check=False, **how)
+            self.assertEqual((done.returncode, done.stdout, len(done.stderr.splitlines())), (7, b"built\n", self.lines_said), words)
 
     def test_what_changes_nothing(self):
         write(f"{self.top}/crates/pg_low/proofs/Lib.antt", "new\n")
@@ -67,14 +110,16 @@ class Built(Checkout):
             with self.subTest(it):
                 with open(f"{self.top}/{it}", "a", encoding="utf-8") as file:
                     file.write("more\n")
+                self.touch(f"{self.top}/{it}", 20)
                 self.is_stale()
                 self.age(f"{self.top}/crates")
-                os.utime(f"{self.out}/protogate.begun")
+                self.renew(10)
                 self.is_built()
 
     def change(self, change):
-        """Makes a change by a shell's line, in the folder of the crates."""
-        subprocess.run(["sh", "-ec", change], cwd=f"{self.top}/crates", check=True)
+        """Makes a change by a shell's line, in the folder of the crates. There $out is where the program is."""
+        crates = f"{self.top}/crates"
+        subprocess.run(["sh", "-ec", change], cwd=crates, env={**os.environ, "out": os.path.relpath(self.out, crates)}, check=True)
 
     def changes(self, change):
         """A change is seen."""
@@ -85,7 +130,7 @@ class Built(Checkout):
         """A change is none of what the program is made of, by the contents: without their checksum nobody knows."""
         self.change(change)
         self.is_built()
-        self.changes("rm protogate/out/protogate.sum")
+        self.changes("rm $out/protogate.sum")
 
     def test_a_crate_that_is_added(self):
         self.changes_nothing("mkdir -p mine/src; : >mine/src/main.rt; echo 'mine: pg_low hex # one of ours' >>../crates.txt")
@@ -124,11 +169,18 @@ class Built(Checkout):
 
     def test_a_crate_that_came_and_went_while_the_program_was_built(self):
         read = stamp.read_now(self.top)
-        stamp.write_sum(self.top, read)
+        stamp.write_sum(self.top, read, self.out)
         self.is_built()
-        self.change("sleep 0.1; mkdir hex; rmdir hex")
-        stamp.write_sum(self.top, read)
+        self.change("mkdir hex; rmdir hex")
+        stamp.write_sum(self.top, read, self.out)
         self.is_stale()
+
+    def test_a_clock_that_has_steps(self):
+        """The sources are read once it has gone on, so what changes after that is younger. Where it stands still, all of that time counts as younger."""
+        with unittest.mock.patch.object(stamp, "time_in", side_effect=[7, 7, 7, 9]) as asked:
+            self.assertEqual((stamp.now_in(self.out), asked.call_count), (7, 4))
+        with unittest.mock.patch.multiple(stamp, time_in=lambda _: 7, STEP=0.01):
+            self.assertEqual(stamp.now_in(self.out), 6)
 
     def test_a_new_file(self):
         self.changes(": >pg_low/specs/More.antt; touch -d @1 pg_low/specs/More.antt")
@@ -167,7 +219,7 @@ class Built(Checkout):
         self.changes("touch pg_low/src/lib.rt")
 
     def test_no_checksum(self):
-        self.changes("rm protogate/out/protogate.sum")
+        self.changes("rm $out/protogate.sum")
 
     def test_a_copied_checkout(self):
         os.symlink("../../elsewhere", f"{self.top}/crates/pg_low/src/broken")
@@ -176,20 +228,21 @@ class Built(Checkout):
         shutil.copytree(f"{self.room}/moved", self.top, symlinks=True)
         for folder in (".", f"{self.top}/crates", self.room):
             self.is_built(at=folder)
-            done = subprocess.run([os.path.relpath(f"{self.top}/protogate", folder)], cwd=folder, env=self.env, stdout=subprocess.PIPE, check=False)
-            self.assertEqual((done.returncode, done.stdout), (7, b"built\n"))
+            how = {"cwd": folder, "env": self.env, "stdout": subprocess.PIPE, "stderr": subprocess.PIPE}
+            done = subprocess.run([os.path.relpath(f"{self.top}/protogate", folder)], check=False, **how)
+            self.assertEqual((done.returncode, done.stdout, len(done.stderr.splitlines())), (7, b"built\n", self.lines_said))
 
     def test_no_program(self):
-        self.changes("rm protogate/out/protogate")
+        self.changes("rm $out/protogate")
 
     def test_a_program_that_cannot_be_run(self):
-        self.changes("chmod -x protogate/out/protogate")
+        self.changes("chmod -x $out/protogate")
 
     def test_no_stamp(self):
-        self.changes("rm protogate/out/protogate.begun")
+        self.changes("rm $out/protogate.begun")
 
     def test_no_kit_beside_it(self):
-        self.changes("rm protogate/out/protogate.kit")
+        self.changes("rm $out/protogate.kit")
 
     def test_another_kit(self):
         shutil.copytree(self.kit, f"{self.room}/other")
@@ -204,8 +257,52 @@ class Built(Checkout):
         os.replace(f"{self.kit}/new", f"{self.kit}/rt")
         self.is_stale()
 
+    def put_kit(self, more):
+        """Has another file, which is old, come to where the kit is."""
+        with open(f"{self.kit}/rt", encoding="utf-8") as file:
+            write(f"{self.kit}/new", file.read() + more, 0o755)
+        os.utime(f"{self.kit}/new", (1, 1))
+        os.replace(f"{self.kit}/new", f"{self.kit}/rt")
+
+    def test_another_kit_behind_the_same_link(self):
+        self.put_kit("")
+        self.is_built()
+        self.put_kit("# other\n")
+        self.is_stale()
+
+    def test_another_kit_in_the_same_file(self):
+        os.remove(f"{self.out}/protogate.kit")
+        os.link(f"{self.kit}/rt", f"{self.out}/protogate.kit")
+        self.is_built()
+        with open(f"{self.kit}/rt", "a", encoding="utf-8") as file:
+            file.write("# other\n")
+        os.utime(f"{self.kit}/rt", (1, 1))
+        self.is_stale()
+
+    def test_another_folder_of_a_kit_under_the_same_name(self):
+        """To the system its script may be as old as it likes: its number tells."""
+        other = f"{self.room}/other"
+        shutil.copytree(self.kit, other)
+        with open(f"{other}/rt", "a", encoding="utf-8") as file:
+            file.write("# other\n")
+        self.age(other)
+        self.renew(10)
+        self.is_built()
+        os.rename(self.kit, f"{self.room}/gone")
+        os.rename(other, self.kit)
+        self.is_stale()
+
+    def test_a_stamp_that_says_nothing_of_the_kits_script(self):
+        """A link alone tells nothing."""
+        write(f"{self.out}/protogate.begun", "stand-in\n")
+        self.renew()
+        self.is_stale()
+        os.remove(f"{self.out}/protogate.kit")
+        os.link(f"{self.kit}/rt", f"{self.out}/protogate.kit")
+        self.is_built()
+
     def test_a_kit_that_was_changed(self):
-        os.utime(f"{self.kit}/rt")
+        self.touch(f"{self.kit}/rt", 0)
         self.is_stale()
 
     def test_a_link_to_the_kit(self):
@@ -219,9 +316,9 @@ class Built(Checkout):
             os.symlink(shutil.which(it), f"{self.room}/bin/{it}")
         self.is_stale(PATH=f"{self.room}/bin")
         # Where nothing was changed since, no file is read.
-        os.utime(f"{self.out}/protogate.begun")
+        self.renew(10)
         self.is_built(PATH=f"{self.room}/bin")
-        os.utime(f"{self.top}/crates.txt")
+        self.touch(f"{self.top}/crates.txt", 20)
         self.is_stale(PATH=f"{self.room}/bin")
 
     def test_a_path_with_other_things_of_that_name(self):
@@ -232,8 +329,72 @@ class Built(Checkout):
         self.is_built(PATH=f"{self.room}/folder:{self.room}/none:{self.room}/file:{self.env['PATH']}")
 
 
+class Unproved(Built):
+    """So it is with a program that was compiled without proof, where none is proved."""
+
+    lines_said = 1
+
+    def build_one(self):
+        write(f"{self.kit}/rt", "#!/bin/sh\n[ $1 != version ] || exec echo stand-in\nexit 2\n", 0o755)
+        self.build_unproved()
+        self.out = f"{self.built}/unproved"
+
+    def is_built(self, **more):
+        super().is_built(**more)
+        self.assertIn("isn't proved", self.lines[0])
+        self.assertIn("tools/build.py", self.lines[0])
+
+    def is_stale(self, **more):
+        """Without Python there is no answer, and with it the stand-in has none."""
+        status, printed = self.call("--help", **more)
+        self.assertEqual((status, printed), (3 if shutil.which("python3", path=more.get("PATH")) else 127, b""))
+
+    def test_that_only_the_proved_program_does(self):
+        self.assertEqual(self.call("--help", PROTOGATE_PROVED_ONLY="1"), (127, b""))
+
+    def test_a_link_to_nothing(self):
+        self.changes("rm -r $out-1")
+
+    def test_no_standard_error(self):
+        done = subprocess.run(["sh", "-c", f"exec '{self.top}/protogate' --help 2>&-"], env=self.env, stdout=subprocess.PIPE, check=False)
+        self.assertEqual((done.returncode, done.stdout), (7, b"built\n"))
+
+
+class Both(Program):
+    """A checkout with a proved program, and one that isn't."""
+
+    SAYS = """#!/bin/sh
+ulimit -s; ulimit -H -s; ulimit -S -s; echo "$GLIBC_TUNABLES"; printf '<%s>' "$@"; pwd; exit 5
+"""
+
+    def test_that_the_proved_one_wins(self):
+        self.build_unproved("#!/bin/sh\nexit 6\n")
+        self.build_proved()
+        self.assertEqual((self.call("--help"), self.lines), ((7, b"built\n"), []))
+
+    def test_a_proved_one_that_is_stale(self):
+        self.build_proved("#!/bin/sh\nexit 6\n")
+        write(f"{self.top}/crates/pg_low/src/lib.rt", "other\n")
+        self.build_unproved()
+        os.utime(f"{self.built}/protogate.begun", (1, 1))
+        self.assertEqual((self.call("--help"), len(self.lines)), ((7, b"built\n"), 1))
+        self.assertEqual(self.call("--help", PROTOGATE_PROVED_ONLY="1"), (127, b""))
+
+    def test_how_both_are_started(self):
+        """With the same stack, environment, words and folder."""
+        self.build_proved(self.SAYS)
+        proved = self.call("show", "a b", "", "*")
+        os.remove(f"{self.built}/protogate")
+        self.build_unproved(self.SAYS)
+        self.assertEqual(self.call("show", "a b", "", "*"), proved)
+        self.assertEqual((proved[0], len(self.lines)), (5, 1))
+
+    def test_a_check_that_fails(self):
+        """How a check that fails ends the program isn't for the caller to say: as with a status that is an answer."""
+        self.build_unproved('#!/bin/sh\necho "$ASAN_OPTIONS ${LSAN_OPTIONS-none} ${UBSAN_OPTIONS-none}"\n')
+        own = {it: "exitcode=0" for it in ("ASAN_OPTIONS", "LSAN_OPTIONS", "UBSAN_OPTIONS")}
+        self.assertEqual(self.call("--help", **own), (0, b"abort_on_error=0:exitcode=3 none none\n"))
+
+
 if __name__ == "__main__":
-    result = unittest.main(exit=False).result
-    failed = len(result.failures) + len(result.errors)
-    print(f"launcher: {result.testsRun - failed} passed, {failed} failed")
-    sys.exit(int(not result.wasSuccessful()))
+    sys.exit(run_tests("launcher"))

@@ -19,6 +19,7 @@ sys.dont_write_bytecode = True
 sys.path += [f"{os.path.dirname(os.path.realpath(__file__))}/{it}" for it in ("..", "../gate")]
 import report  # noqa: E402
 import run_tests  # noqa: E402
+import stamp  # noqa: E402
 import test_ci  # noqa: E402
 from test_ci import GATE, HEAD, TOP, read  # noqa: E402
 
@@ -83,7 +84,7 @@ class Reports(test_ci.Repository):
     def test_what_is_refused(self):
         """The call that gates a set of what is refused is that of the run; no other command knows both sides."""
         self.release({"a.proto": HEAD + "message A { }"}, {"a.proto": HEAD + 'option (x) = "<&>";'})
-        page = self.page("v1", "proto", "--view", "numbers")
+        page = self.page("v1", "proto", "--no-with-protoc", "--view", "numbers")
         for words in ("new E205", 'option (x) = "<&>";', "The custom option is not supported.", "What to do:",
                       "gate.sh --with-protoc --view numbers v1 proto"):
             self.assertIn(words, page.words)
@@ -91,7 +92,7 @@ class Reports(test_ci.Repository):
 
     def test_what_is_refused_on_both_sides(self):
         self.release({"a b.proto": HEAD + "option (x) = 1;"}, {"a b.proto": HEAD + "option (x) = 1;"}, "a folder")
-        page = self.page("v1", "a folder", PROTOGATE_CI_NAME="protogate-ci")
+        page = self.page("v1", "a folder", "--no-with-protoc", PROTOGATE_CI_NAME="protogate-ci")
         self.assertIn("protogate-ci --with-protoc v1 'a folder'", page.words)
 
     def test_names_of_enums(self):
@@ -100,7 +101,7 @@ class Reports(test_ci.Repository):
         page = self.page("v1", "proto", "--view", "names")
         for words in ("The number is the same on both sides", "give what is meant now a number of its own"):
             self.assertIn(words, page.words)
-        for words in ("doesn't read it whole", "as another one", "Give the field its old type back"):
+        for words in ("loses a value", "as another one", "Give the field its old type back"):
             self.assertNotIn(words, page.words)
         self.assertIn("Both sides read the same numbers in it", self.page("v1", "proto", "--view", "names", "Invoice").words)
 
@@ -115,7 +116,8 @@ class Reports(test_ci.Repository):
             self.assertEqual(page.words.count(words), 1, words)
         self.assertEqual(page.words.count("What breaks by it: L, M, N"), 2)
         named = self.page("v1", "proto", "N").words
-        for words in ("The way to what breaks in it:", "field 1, N.m", "field 1, M.l", "What breaks by it: N"):
+        for words in ("and the new side misreads it, refuses it, or loses a value.", "The way to what breaks in it:", "field 1, N.m", "field 1, M.l",
+                      "What breaks by it: N"):
             self.assertIn(words, named)
         self.assertNotIn("gate.sh v1 proto N", named)
 
@@ -177,8 +179,12 @@ class Templates(test_ci.Repository):
             self.write({name: f'#!/bin/sh\nexec "{tool}" "$@"\n'}, tools)
             os.chmod(f"{tools}/{name}", 0o755)
         self.env["PATH"] = f"{tools}:{os.environ['PATH']}"
-        self.clone = f"{self.room.name}/clone"
+        self.clone, self.temp = f"{self.room.name}/clone", f"{self.room.name}/temp"
+        os.mkdir(self.temp)
         self.git("clone", "-q", "--depth", "1", f"file://{self.top}", self.clone)
+        self.env.update(RUNNER_TEMP=self.temp, GITHUB_BASE_REF="main", CI_MERGE_REQUEST_TARGET_BRANCH_NAME="main", CI_PROJECT_ID="1",
+                        CI_MERGE_REQUEST_PROJECT_ID="1", CI_JOB_ID=f"{os.getpid()}-{id(self)}")
+        self.addCleanup(shutil.rmtree, f"/tmp/protogate-{self.env['CI_JOB_ID']}", True)
 
     def shell(self, script, **more):
         done = subprocess.run(["bash", "-e", "-c", script], cwd=self.clone, env={**self.env, **more}, stdout=subprocess.PIPE,
@@ -196,7 +202,7 @@ class Templates(test_ci.Repository):
         self.assertEqual(status, 1)
         self.assertIn("::error file=proto/order.proto,title=protogate%3A value Order.note,line=7,col=10::", said)
         self.assertEqual(self.shell(reports)[0], 0)
-        with open(f"{self.clone}/protogate.html", encoding="utf-8") as page:
+        with open(f"{self.temp}/protogate.html", encoding="utf-8") as page:
             self.assertIn("proto breaks old messages", page.read())
 
     def gitlab(self, **more):
@@ -215,24 +221,27 @@ class Templates(test_ci.Repository):
     def test_gitlab_in_a_fork(self):
         """A fork may lack the release that the project has."""
         self.git("remote", "set-url", "origin", f"file://{self.room.name}/none", at=self.clone)
-        self.assertEqual(self.gitlab(RELEASE="v1.4", CI_MERGE_REQUEST_PROJECT_URL=f"file://{self.top}")[0], 1)
+        self.assertEqual(self.gitlab(RELEASE="v1.4", CI_PROJECT_ID="2", CI_MERGE_REQUEST_PROJECT_URL=f"file://{self.top}")[0], 1)
 
-    def test_gitlab_asks_the_project_first(self):
-        """The release of a fork may be another one, which must not be what is gated against."""
+    def test_gitlab_asks_the_project_alone(self):
+        """The release of a fork may be another one, which must not be what is gated against, also where the project's can't be read."""
         self.git("fetch", "-q", "--depth", "1", "origin", "tag", "v1.4", at=self.clone)
         fork = f"{self.room.name}/fork"
         self.git("clone", "-q", f"file://{self.top}", fork)
         self.git("tag", "-f", "v1.4", "HEAD", at=fork)
         self.git("remote", "set-url", "origin", f"file://{fork}", at=self.clone)
         self.assertEqual(self.gitlab(RELEASE="v1.4")[0], 0)
-        self.assertEqual(self.gitlab(RELEASE="v1.4", CI_MERGE_REQUEST_PROJECT_URL=f"file://{self.top}")[0], 1)
+        self.assertNotIn(self.gitlab(RELEASE="v1.4", CI_PROJECT_ID="2", CI_MERGE_REQUEST_PROJECT_URL=f"file://{self.room.name}/none")[0], (0, 1))
+        self.assertEqual(self.gitlab(RELEASE="v1.4", CI_PROJECT_ID="2", CI_MERGE_REQUEST_PROJECT_URL=f"file://{self.top}")[0], 1)
 
     def test_gitlab_without_the_release(self):
         """Where neither project has the release, a tag that the clone still has isn't gated against."""
         self.git("fetch", "-q", "--depth", "1", "origin", "tag", "v1.4", at=self.clone)
         self.git("remote", "set-url", "origin", f"file://{self.room.name}/none", at=self.clone)
-        self.assertNotIn(self.gitlab(RELEASE="v1.4", CI_MERGE_REQUEST_PROJECT_URL=f"file://{self.room.name}/none")[0], (0, 1))
-        self.assertFalse(os.path.isfile(f"{self.clone}/run.json"))
+        for project in ("1", "2"):
+            there = {"CI_PROJECT_ID": project, "CI_MERGE_REQUEST_PROJECT_URL": f"file://{self.room.name}/none"}
+            self.assertNotIn(self.gitlab(RELEASE="v1.4", **there)[0], (0, 1))
+            self.assertFalse(os.path.isfile(f"{self.clone}/protogate.html"))
 
     def test_the_sum_of_the_package(self):
         """A package is installed only where its sum is the one that is kept outside."""
@@ -276,7 +285,10 @@ class Templates(test_ci.Repository):
         self.assertEqual(self.shell(f"{self.hook()['entry']} --skip Order")[0], 0)
         for name in ("github.yml", "gitlab.yml", "pre-commit.yaml", "protogate.mk"):
             said = read(f"examples/ci/{name}")
-            self.assertTrue("--skip TYPE" in said and "--with-protoc" in said, name)
+            for words in ("--skip TYPE", "--no-with-protoc", "protobuf-compiler", "libprotobuf-dev"):
+                self.assertIn(words, said, name)
+            # (where protoc is on the path it is used without an option)
+            self.assertNotIn("--with-protoc", said, name)
 
     def hook(self):
         """What the hook says under each of its keys."""
@@ -336,6 +348,13 @@ class Completions(unittest.TestCase):
         said = subprocess.run(["bash", "-c", script], cwd=TOP, stdout=subprocess.PIPE, stderr=subprocess.DEVNULL).stdout.decode()
         self.assertEqual(said.split(), ["order.proto"])
 
+    def test_bash_lists(self):
+        """A list counts from the current folder."""
+        script = ("source tools/dist/completions/protogate.bash; COMP_WORDS=(protogate types --dir examples/old --files-from examples/lists/f); "
+                  "COMP_CWORD=5; _protogate; echo ${COMPREPLY[@]}")
+        said = subprocess.run(["bash", "-c", script], cwd=TOP, stdout=subprocess.PIPE, stderr=subprocess.DEVNULL).stdout.decode()
+        self.assertEqual(said.split(), ["examples/lists/files.txt"])
+
     @unittest.skipUnless(shutil.which("fish"), "there is no fish")
     def test_fish(self):
         for command, options in self.synopses().items():
@@ -345,7 +364,7 @@ class Completions(unittest.TestCase):
 
     def test_zsh(self):
         options = set().union(*self.synopses().values())
-        self.assertEqual(set(re.findall(r"'(--[a-z-]+)\[", read("tools/dist/completions/protogate.zsh"))) - {"--version"}, options)
+        self.assertEqual(set(re.findall(r"'\*?(--[a-z-]+)\[", read("tools/dist/completions/protogate.zsh"))) - {"--version"}, options)
 
 
 class Scripts(unittest.TestCase):
@@ -434,7 +453,7 @@ class Packages(test_ci.Repository):
         shutil.copy(test_ci.PROGRAM, f"{self.top}/crates/protogate/out/protogate")
         if shutil.which("rt"):
             os.symlink(os.path.realpath(shutil.which("rt")), f"{self.top}/crates/protogate/out/protogate.kit")
-        self.write({"crates/protogate/out/protogate.begun": ""})
+        self.write({"crates/protogate/out/protogate.begun": "\n".join(stamp.lines_of_kit()) + "\n" if shutil.which("rt") else ""})
         os.chmod(f"{self.top}/protogate", 0o755)
         made = []
         names = ["protogate-1.2.3-linux-x86_64.tar.gz", "protogate_1.2.3_amd64.deb"]

@@ -13,11 +13,13 @@ case $service in
             '--types[name each compatible type]' '--both[ask for both directions]' '--no-both[ask for old messages alone]' \
             '--view[how enums are compared]:view:(numbers names)' \
             '--with-protoc[gate what protoc makes of files that are refused]' '--no-with-protoc[gate source files alone]' \
+            '--base[take the settings as they were there]:revision:_protogate_revisions' '--settings[take the settings of this file]:file:_files' \
+            '--no-settings[take no settings]' '--time-limit[end each program that runs longer]:seconds: ' \
             '--github[print annotations for GitHub]' '--record[write all that was found as JSON]:file:_files' \
             '1:revision:_protogate_revisions' '2:folder:_files -/' '*:type: '
         ;;
     protogate-report)
         _arguments '--help[print help]' '--version[print versions]' '--old-link[how a link to the old side goes]:URL: ' \
-            '--new-link[how a link to the new side goes]:URL: ' ':record:_files'
+            '--new-link[how a link to the new side goes]:URL: ' '--output[write the page to this file]:file:_files' ':record:_files'
         ;;
 esac

@@ -29,21 +29,23 @@ _protogate() {
         return
     fi
     case $command in
-        compile | types) options+=' --dir' ;;
-        gate) options+=' --old-dir --new-dir --old --new --type --view --both --cert --explain' ;;
-        gate-all) options+=' --old-dir --new-dir --old --new --view --explain' ;;
-        verify) options+=' --old-dir --new-dir --old --new' ;;
-        show) options+=' --dir --file --type' ;;
+        compile) options+=' --dir --include --files-from' ;;
+        types) options+=' --dir --include --files-from --json' ;;
+        gate) options+=' --old-dir --new-dir --old-include --new-include --old --new --type --view --both --cert --explain --json' ;;
+        gate-all) options+=' --old-dir --new-dir --old-include --new-include --old --new --old-files-from --new-files-from --view --explain --json --notes' ;;
+        verify) options+=' --old-dir --new-dir --old-include --new-include --old --new --json' ;;
+        show) options+=' --dir --include --file --type --json' ;;
         *) return ;;
     esac
     case $before in
         --old) _protogate_files "$(_protogate_value --old-dir .)" "$word" ;;
         --new) _protogate_files "$(_protogate_value --new-dir .)" "$word" ;;
         --file) _protogate_files "$(_protogate_value --dir .)" "$word" ;;
-        --dir | --old-dir | --new-dir)
+        --dir | --old-dir | --new-dir | --include | --old-include | --new-include)
             compopt -o filenames 2>/dev/null
             mapfile -t COMPREPLY < <(compgen -d -- "$word")
             ;;
+        --files-from | --old-files-from | --new-files-from) _protogate_files . "$word" ;;
         --view) COMPREPLY=($(compgen -W 'numbers names' -- "$word")) ;;
         --type) ;;
         *)

@@ -1,0 +1,1 @@
+"""Gates the message types of a repository against a revision of it."""
