@@ -1,7 +1,7 @@
 #!/usr/bin/env bash
 # Times `protogate gate-all` on whole repositories, beside protoc compiling both sides with all that they import, and on a quarter of each:
-# 1,024 files with 4,096 types, one file with 4,095 types, 4,096 types in a circle, and a package of Debian where it is installed
-# (libignition-msgs-dev, 186 files). In each one field of one type changes. Then `examples/ci/gate.sh` on the 1,024 files, git included.
+# 1,024 files with 4,096 types, one file with 4,095 types, 4,096 types in a circle, one type of 24,000 fields that come into one oneof, and a
+# package of Debian where it is installed (libignition-msgs-dev, 186 files). In each other one field of one type changes. Then `examples/ci/gate.sh` on the 1,024 files, git included.
 # The goals: gate-all at most 0.35 of protoc's time in each, its memory at most protoc's; gate.sh at most 1.0 of protoc's time; the whole at
 # most 5 times as long as a quarter.
 # usage: bench/repository.sh [FOLDER]
@@ -94,9 +94,13 @@ make_one graph graph 4095
 make_one fewer_types graph 1024
 make_one circle circle 4096
 make_one smaller_circle circle 1024
+make_one oneof wide 64
+make_one smaller_oneof oneof 64
 compare files "1,024 files with 4,096 types"
 compare graph "one file with 4,095 types"
 compare circle "4,096 types in a circle"
+compare oneof "24,000 fields that come into one oneof"
+compare smaller_oneof "6,000 fields that come into one oneof"
 if make_package; then
     compare ignition "libignition-msgs-dev"
 else
@@ -105,6 +109,7 @@ fi
 grow files fewer_files
 grow graph fewer_types
 grow circle smaller_circle
+grow oneof smaller_oneof
 make_repository
 words_of files
 echo "gate.sh: 1,024 files with 4,096 types, git included, beside protoc"

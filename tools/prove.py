@@ -1,7 +1,7 @@
 #!/usr/bin/env python3
 """Runs the gate (`rt ci`: each proof, the tests and the programs; and the edits that must be refused) and tells what it cost.
 
-usage: tools/prove.py [--anew [--costs]] [CRATE..]    ends with the gate's status, and with its last line, 'N passed, M failed'
+usage: tools/prove.py [--anew [--costs]] [--tested=CHECKSUM,PART,..] [CRATE..]    ends with the gate's status, and with its last line, 'N passed, M failed'
 
 The gate runs on a copy of the repository, or, where crates are named, of these and of those below them. Edits are taken out of the
 copy, and tried afterwards over the libraries that `rt ci` built there, those of a crate in one check or a few (try_edits.py); `rt ci` in
@@ -10,7 +10,9 @@ pictures are compared first, and that each public function has an edit; a messag
 (try_lent.py). What passed is put back into the repository, where its sources are still the same, and tried last: the program and the
 libraries' calls with each request for memory refused, the program on rows and on random inputs, the scripts that call it, the commands of
 the documents, and the tests of these scripts.
-What earlier runs on this machine passed isn't proved again; with --anew all is proved and tried again.
+What earlier runs on this machine passed isn't proved again; with --anew all is proved and tried again. tools/test.py --prove hands over which
+of its parts passed, by --tested, and a checksum of the repository at that time: those that need no program aren't tried again, and all are counted.
+Where a file was changed since, all is tried again.
 
 It says at the start, and each minute, how long it is likely to take. A line of rt follows the seconds since the start. The last lines are the
 processor seconds of each crate by kind: its proof, its seeds (a second proof, where edits are left to `rt ci`), its edits, its tests, and
@@ -34,47 +36,21 @@ sys.path.append(f"{os.path.dirname(os.path.realpath(__file__))}/gate")
 import child_programs  # noqa: E402
 import kit  # noqa: E402
 import stamp  # noqa: E402
+import testers  # noqa: E402
 import times  # noqa: E402
 from costs import KINDS, Costs, others, print_costs  # noqa: E402
 from crates import crates_of  # noqa: E402
 from machine import is_confined, lanes, missing, processors  # noqa: E402
+from parts import all_parts  # noqa: E402
 from try_edits import plan, try_all  # noqa: E402
 
-# What compares the documents, pictures and edits with what they are of: it takes seconds.
-COMPARED = ("docs/model_files.py", "docs/links.py", "docs/pictures.py", "docs/errors.py", "docs/plain_words.py", "docs/costs_table.py",
-            "gate/held_edits.py")
-# What tries what was built: the program and the calls with each request for memory refused, the program on rows, and the scripts that
-# call it. The last ones try the launcher and the gate itself.
-TESTERS = (
-    "rows/try_program_memory.py",
-    "rows/try_call_memory.py",
-    "rows/try_rows.py",
-    "dist/test_ci.py",
-    "dist/test_ci_trees.py",
-    "dist/test_ci_roots.py",
-    "dist/test_ci_words.py",
-    "dist/test_ci_terminal.py",
-    "dist/test_ci_causes.py",
-    "docs/test_errors.py",
-    "docs/test_plain_words.py",
-    "docs/test_costs_table.py",
-    "dist/test_packages.py",
-    "gate/test_wrong_copies.py",
-    "dist/test_launcher.py",
-    "gate/test_gate.py",
-    "gate/test_gate_parts.py",
-)
-# Testers that check or compile crates. They run beside those above, no more at once than there are processors and memory for.
-CHECKING = ("gate/test_try_edits.py", "dist/test_first_answer.py", "gate/try_other_kit.py")
-# What comes alone, each with its words: what tells how long a first answer of a checkout takes; what tries the program on random inputs, on
-# all processors; and, last, the commands of the documents, of which some waits go by the clock.
-ALONE = (
-    ("tools/dist/test_first_page.py",),
-    ("tools/fuzz/fuzz.py",),
-    ("tools/docs/try_examples.sh", "crates/protogate/out/protogate"),
-)
+TOP = os.path.dirname(os.path.dirname(os.path.realpath(__file__)))
+# The program that the gate builds.
+BUILT = f"{TOP}/crates/{stamp.PROGRAM}/out/{stamp.PROGRAM}"
 # The programs that the gate needs, and what for.
 PROGRAMS = {"rt": "the kit that proves and builds", "git": "it makes the repository that the gate runs on", "cc": "it links programs"}
+# How the word begins that hands over which parts of tools/test.py passed, and of which files.
+TESTED = "--tested="
 # What the gate takes of the disk, in bytes: of all crates, and of some.
 DISK, DISK_OF_SOME = 6_000_000_000, 2_000_000_000
 # What a line of rt says of a crate whose proof is done.
@@ -139,12 +115,13 @@ def take_edits(room):
     return plans
 
 
-def progress_of(room, plans, testers):
-    """Returns how far a run is: the proofs of the crates in the room, their edits, and what tries the program."""
+def progress_of(room, plans, left):
+    """Returns how far a run is: the proofs of the crates in the room, their edits, and these testers."""
     costs, crates = times.read(), crates_of(room)
     proofs = {it: sum(costs.get(it, times.UNKNOWN)[kind] for kind in ("proof", "tests", "programs")) for it in crates}
     edits = {f"edits of {it.crate.name}": max(10, costs.get(it.crate.name, times.UNKNOWN)["edits"]) for it in plans}
-    tried = {it: costs.get(times.TESTERS, times.UNKNOWN)["programs"] / len(testers) for it in testers}
+    share = costs.get(times.TESTERS, times.UNKNOWN)["programs"] / max(1, sum(it.seconds for it in left))
+    tried = {testers.name_of(it): share * it.seconds for it in left}
     below = {it: [dep.name for dep in crates[it].deps] for it in crates}
     phases = {"crates": (proofs, below), "crates' edits": (edits, dict.fromkeys(edits, ())), "testers": (tried, dict.fromkeys(tried, ()))}
     return times.Progress(phases, lanes(), say)
@@ -266,10 +243,11 @@ def put_back(room, copied, begun):
     return True
 
 
-def documents_agree():
+def documents_agree(tested):
     """Returns whether the documents name the files that the promise rests on, their links lead somewhere, the pictures are those of their sources,
     errors have one wording, words are plain, costs are those that were measured, and each public function has an edit."""
-    return all([subprocess.run([f"tools/{it}", "--compare"]).returncode == 0 for it in COMPARED])
+    left = testers.without(testers.COMPARED, tested)
+    return all([subprocess.run(testers.words_of(it, None), check=False).returncode == 0 for it in left])
 
 
 def try_lent(room):
@@ -277,32 +255,38 @@ def try_lent(room):
     return child_programs.run([sys.executable, f"{os.getcwd()}/tools/gate/try_lent.py", room], stdin=subprocess.DEVNULL)[0] == 0
 
 
-def try_program(progress):
-    """Runs the testers of what `rt ci` built side by side, those that check crates no more at once than there is room for, and then each of those that
+def try_program(left, progress):
+    """Runs these testers of what `rt ci` built side by side, those that check crates no more at once than there is room for, and then each of those that
     come alone. Prints what each said and took. Returns which passed, and what was passed over."""
     passed, over = [], []
 
-    def ended(name, run):
-        said = run.stdout.read()
-        status, seconds = child_programs.wait(run)
+    def ended(tester, run, begun):
+        name = testers.name_of(tester)
+        with child_programs.limited(run, testers.MOST_SECONDS):
+            said = run.stdout.read()
+            status, seconds = child_programs.wait(run)
         passed.append(status == 0)
         progress.end(name)
-        print(f"{said}{name}: {seconds:.0f} processor seconds", flush=True)
+        said += child_programs.end_in_words(name, status, time.monotonic() - begun)
+        print(f"{said}{tester.path}: {seconds:.0f} processor seconds", flush=True)
         over.extend(it for it in said.splitlines() if it.startswith("passed over"))
 
-    def started(names):
-        return [(it, child_programs.start([f"tools/{it}"], **HOW)) for it in names]
+    def started(some):
+        for it in some:
+            progress.begin(testers.name_of(it))
+        return [(it, child_programs.start(testers.words_of(it, BUILT), **HOW), time.monotonic()) for it in some]
 
-    def wait_for(testers):
-        for name, tester in testers:
-            ended(name, tester)
+    def wait_for(runs):
+        for tester, tried, begun in runs:
+            ended(tester, tried, begun)
 
-    testers, at_once = started(TESTERS), lanes()
-    for first in range(0, len(CHECKING), at_once):
-        wait_for(started(CHECKING[first : first + at_once]))
-    wait_for(testers)
-    for words in ALONE:
-        ended(words[0], child_programs.start(words, **HOW))
+    beside, checking, alone = testers.in_order(left)
+    runs, at_once = started(beside), lanes()
+    for first in range(0, len(checking), at_once):
+        wait_for(started(checking[first : first + at_once]))
+    wait_for(runs)
+    for tester in alone:
+        wait_for(started([tester]))
     return passed, over
 
 
@@ -316,32 +300,33 @@ def tell_start(progress):
     say(f"{times.in_words(progress.left())} on {processors()} processors, where nothing is kept from earlier runs")
 
 
-def prove_all(flags):
-    """Runs the whole gate. Returns its status and the costs of each crate."""
-    if not documents_agree():
-        print("the documents, pictures or edits lack something\n0 passed, 1 failed")
+def prove_all(flags, tested):
+    """Runs the whole gate, after these parts of tools/test.py have passed. Returns its status and the costs of each crate."""
+    if not documents_agree(tested):
+        print(f"the documents, pictures or edits lack something\n{len(tested)} passed, 1 failed")
         return 1, {}
+    left = testers.without(testers.TESTERS, tested)
     before, passed, over = resource.getrusage(resource.RUSAGE_CHILDREN), [], []
     with tempfile.TemporaryDirectory(prefix="protogate-gate-") as room, child_programs.all_ended():
         begun = stamp.read_now(".")
         copy_all(room)
         copied, plans = sums(room), take_edits(room)
-        progress = progress_of(room, plans, (*TESTERS, *CHECKING, *(it[0] for it in ALONE)))
+        progress = progress_of(room, plans, left)
         tell_start(progress)
         with progress:
             status, last, table, _ = prove(room, flags, plans, progress)
             if status == 0:
-                tested = resource.getrusage(resource.RUSAGE_CHILDREN)
+                proved = resource.getrusage(resource.RUSAGE_CHILDREN)
                 passed = [try_lent(room), put_back(room, copied, begun)]
                 if passed[-1]:
-                    tried, over = try_program(progress)
+                    tried, over = try_program(left, progress)
                     passed += tried
-                table[times.TESTERS] = {**dict.fromkeys(KINDS, 0.0), "programs": seconds_since(tested)}
+                table[times.TESTERS] = {**dict.fromkeys(KINDS, 0.0), "programs": seconds_since(proved)}
                 table[times.OTHERS] = {**dict.fromkeys(KINDS, 0.0), "programs": others(table, seconds_since(before) + own_seconds())}
     print_costs(table, seconds_since(before) + own_seconds())
     for line in dict.fromkeys(over):
         print(line)
-    print(counted(last, sum(passed), len(passed) - sum(passed)))
+    print(counted(last, sum(passed) + len(tested), len(passed) - sum(passed)))
     return status or 1 - all(passed), table
 
 
@@ -364,6 +349,18 @@ def prove_named(names, flags):
     return status, table
 
 
+def handed_over(words):
+    """Returns the parts of tools/test.py that are said to have passed, and the checksum of the files of which they did. Raises ValueError where that
+    can't be."""
+    said = [it[len(TESTED) :].split(",") for it in words if it.startswith(TESTED)]
+    if not said:
+        return [], None
+    (of, *parts), *others = said
+    if others or not parts or len({*parts}) < len(parts) or not {*parts} <= {it.name for it in all_parts(TOP)}:
+        raise ValueError("--tested comes once, with a checksum and parts of tools/test.py, each once")
+    return parts, of
+
+
 def measured(table):
     """Returns the costs to write after a run. A crate that it didn't prove anew, as where the kit kept the proof, keeps its row."""
     before, none, names = times.read(), dict.fromkeys(times.KINDS, 0), (*crates_of("."), times.TESTERS, times.OTHERS)
@@ -373,21 +370,29 @@ def measured(table):
 
 def main():
     names = [it for it in sys.argv[1:] if not it.startswith("--")]
-    unknown = {*sys.argv[1:]} - {*names, "--anew", "--costs"}
+    try:
+        tested, of = handed_over(sys.argv[1:])
+    except ValueError as fault:
+        print(fault, file=sys.stderr)
+        return 2
+    unknown = {it for it in sys.argv[1:] if not it.startswith(TESTED)} - {*names, "--anew", "--costs"}
     if unknown:
         print(f"unknown: {' '.join(sorted(unknown))}\n\n{__doc__}", file=sys.stderr)
         return 2
-    if "--costs" in sys.argv and "--anew" not in sys.argv:
-        print("--costs goes with --anew: what is kept from earlier runs isn't measured", file=sys.stderr)
+    if "--costs" in sys.argv and ("--anew" not in sys.argv or tested):
+        print("--costs goes with --anew alone: what is kept from earlier runs, or was tested before, isn't measured", file=sys.stderr)
         return 2
     flags = ["--anew"] * ("--anew" in sys.argv)
     places = {tempfile.gettempdir(): DISK_OF_SOME if names else DISK}
     lacking = missing(PROGRAMS, places if names else {**places, stamp.out_of("."): 0})
     if lacking:
-        print("\n".join([*lacking, "0 passed, 1 failed"]), flush=True)
+        print("\n".join([*lacking, f"{len(tested)} passed, 1 failed"]), flush=True)
         return 2
+    if tested and of != stamp.sum_of_files(TOP):
+        say("a file was changed since the tests ran, so all of them run again")
+        tested = []
     child_programs.on_signals()
-    status, table = prove_named(names, flags) if names else prove_all(flags)
+    status, table = prove_named(names, flags) if names else prove_all(flags, tested)
     if status == 0 and "--costs" in sys.argv:
         times.write(measured(table))
         subprocess.run(["tools/docs/costs_table.py", "--write"], check=False)
@@ -395,5 +400,5 @@ def main():
 
 
 if __name__ == "__main__":
-    os.chdir(os.path.dirname(os.path.dirname(os.path.realpath(__file__))))
+    os.chdir(TOP)
     sys.exit(main())

@@ -6,6 +6,8 @@
 # MAINTAINER ('A Name <name@host>'). Without it the Debian package isn't made, and a line says so. The same commit, program and maintainer
 # make the same packages, byte for byte.
 set -eu
+# (chroot is there, and what dpkg wants: a user's path may lack both)
+export PATH="$PATH:/usr/sbin:/sbin"
 root=$(CDPATH= cd -- "$(dirname -- "$0")/.." && pwd -P)
 if [ $# -lt 1 ] || [ $# -gt 2 ]; then
     echo "usage: $0 FOLDER [VERSION]" >&2

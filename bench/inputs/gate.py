@@ -3,7 +3,7 @@
 
 usage: gate.py FOLDER [TYPES]
 
-In each folder below it are old.proto and new.proto. But for the last two they differ in one field of one type. TYPES is 4,096.
+In each folder below it are old.proto and new.proto. But for the last three they differ in one field of one type. TYPES is 4,096.
 graph   so many types in one graph, 15 fields each (about 1.1 MB)
 chain   so many types, each with one field of the next; the last one differs
 front   the chain; the first one differs
@@ -11,6 +11,7 @@ circle  so many types, each with one field of the next in a circle, which goes t
 mesh    64 types, each with a field of every type
 same    the graph, unchanged
 oneof   one type of 6,000 fields that come into one oneof of the new side
+wide    the same with 24,000 fields
 """
 import os
 import sys
@@ -18,6 +19,7 @@ import sys
 TYPES = int(sys.argv[2]) if len(sys.argv) > 2 else 4096
 MESH = 64
 ONEOF = 6000
+WIDE = 24000
 SCALARS = ["int32", "string", "bool", "double", "bytes", "uint64", "fixed32"]
 
 
@@ -58,13 +60,18 @@ def mesh(number, _side):
         yield f"  M{other} to{other} = {other + 1};\n"
 
 
-def oneof(_number, side):
+def oneof(_number, side, fields=ONEOF):
+    """Numbers from 1001 on, but none of those that proto3 reserves, 19,000 to 19,999."""
     if side == "new":
         yield "  oneof one {\n"
-    for at in range(ONEOF):
-        yield f"  int32 f{at} = {1001 + at};\n"
+    for at in range(fields):
+        yield f"  int32 f{at} = {1001 + at + 1000 * (at >= 17999)};\n"
     if side == "new":
         yield "  }\n"
+
+
+def wide(number, side):
+    return oneof(number, side, WIDE)
 
 
 def write(folder, side, types, fields, changed_at):
@@ -87,6 +94,7 @@ def main():
         ("mesh", MESH, mesh, MESH - 1),
         ("same", TYPES, graph, None),
         ("oneof", 1, oneof, None),
+        ("wide", 1, wide, None),
     ]:
         folder = os.path.join(sys.argv[1], name)
         os.makedirs(folder, exist_ok=True)

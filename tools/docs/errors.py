@@ -2,7 +2,8 @@
 """Copies the sentence of each error from the crates' error types to where users read it, so that each error has one wording.
 
 usage: tools/docs/errors.py --write      writes the sentences into the tables of docs/ERRORS.md; and of these tables the list of errors in
-                                         docs/protogate.1 and the table that examples/ci goes by (codes.py)
+                                         docs/protogate.1, the table that examples/ci goes by (codes.py), and what pg_gate says with --json: the
+                                         definition (Sentences.antt) and the code (sentences.rt)
        tools/docs/errors.py --compare    status 1 where one of these files isn't so
 
 The sentences are those of `#[error("..")]`, each of the code that `code()` gives its variant. Codes, positions and what to do are
@@ -16,6 +17,7 @@ import sys
 
 TOP = os.path.dirname(os.path.dirname(os.path.dirname(os.path.realpath(__file__))))
 PAGE, MANUAL, TABLE = "docs/ERRORS.md", "docs/protogate.1", "examples/ci/codes.py"
+SPEC, CODE = "crates/pg_gate/specs/print/Sentences.antt", "crates/pg_gate/src/print/sentences.rt"
 # What the list of the man page is between.
 BEGIN, END = '.\\" The list of errors is made by tools/docs/errors.py --write.\n', '.\\" The list of errors ends here.\n'
 HEAD = '''"""What each code means and what to do about it: made by `tools/docs/errors.py --write`, which says where to change it."""
@@ -23,6 +25,20 @@ HEAD = '''"""What each code means and what to do about it: made by `tools/docs/e
 # By code the sentence of the error, and what to do.
 ERRORS = {
 '''
+SPEC_HEAD = """-- The sentence of a code: made by tools/docs/errors.py --write of what the error types say.
+use Rattle.std.specs.Prelude.{ℕ, [], ◌==◌, ◌/◌, if◌then◌else◌, codes}
+use Rattle.pg_link.specs.names.Names.{Text}
+
+"""
+CODE_HEAD = """//! The sentence of a code: made by tools/docs/errors.py --write of what the error types say.
+ghost use Rattle.std.specs.Prelude.{◌≡◌};
+ghost use Rattle.pg_gate.specs.print.Sentences as spec;
+
+"""
+# What the codes of each hundred are of.
+PARTS = {1: "token", 2: "grammar", 3: "file", 4: "rule", 5: "record", 6: "message", 7: "set", 8: "certificate", 9: "gate"}
+# The most columns of a line of code, as the kit lays it out.
+COLUMNS = 100
 # The heading of errors that the program never prints: the man page and the scripts leave them out.
 UNPRINTED = "The library alone"
 ENUM = re.compile(r"^pub enum (\w+) \{\n(.*?)^\}", re.M | re.S)
@@ -154,11 +170,58 @@ def table_of(page):
     return HEAD + "".join(f"    {code!r}: (\n        {says!r},\n        {mend!r},\n    ),\n" for code, (says, mend) in sorted(rows.items())) + "}\n"
 
 
+def string(words):
+    """Words as a literal of the sources."""
+    return '"' + words.replace("\\", "\\\\").replace('"', '\\"') + '"'
+
+
+def refusals_of(page):
+    """Returns the sentences that a refusal has, by the hundred of their codes and then by these."""
+    found = {part: {} for part in PARTS}
+    for heading, code, _, sentence, _, _ in rows_in(page):
+        if heading != UNPRINTED and int(code[1:]) >= 100:
+            found[int(code[1:]) // 100][int(code[1:])] = sentence
+    return {part: dict(sorted(them.items())) for part, them in found.items() if them}
+
+
+def spec_of(found):
+    """Returns the definition of these sentences."""
+    text = SPEC_HEAD
+    for part, them in found.items():
+        tests = "    else ".join(f"if code == {code} then codes {string(says)}\n" for code, says in them.items())
+        text += f"unfoldable pub {PARTS[part]}_sentence : ℕ → Text\n{PARTS[part]}_sentence code =\n    {tests}    else []\n\n"
+    tests = "    else ".join(f"if hundred == {part} then {PARTS[part]}_sentence code\n" for part in found)
+    text += f"abbrev pub sentence_in : (hundred : ℕ) → ℕ → Text\nsentence_in hundred code =\n    {tests}    else []\n\n"
+    return text + "-- codes of a hundred are of one subject\nunfoldable pub sentence_of : ℕ → Text\nsentence_of code = sentence_in (code / 100) code\n"
+
+
+def arm(pattern, value):
+    """An arm of a match, as the kit lays it out."""
+    line = f"        {pattern} => {value},\n"
+    return line if len(line) <= COLUMNS + 1 else f"        {pattern} => {{\n            {value}\n        }}\n"
+
+
+def code_of(found):
+    """Returns the code of these sentences."""
+    text = CODE_HEAD
+    for part, them in found.items():
+        arms = "".join(arm(code, string(says)) for code, says in them.items())
+        text += f"#[tactic(auto, unfolding(crate::specs::print::Sentences::{PARTS[part]}_sentence))]\n"
+        text += f"fn {PARTS[part]}_sentence(code: u16) -> &'static str\n    ensures {{ result.now ≡ spec.{PARTS[part]}_sentence code }}\n{{\n"
+        text += f"    match code {{\n{arms}        _ => \"\",\n    }}\n}}\n\n"
+    arms = "".join(arm(part, f"{PARTS[part]}_sentence(code)") for part in found)
+    text += "/// The sentence of a code that a refusal has.\n#[tactic(auto, unfolding(crate::specs::print::Sentences::sentence_of))]\npub(crate) fn sentence_of(code: u16) -> &'static str\n"
+    text += "    ensures { result.now ≡ spec.sentence_of code }\n{\n"
+    return text + f"    match code / 100 {{\n{arms}        _ => \"\",\n    }}\n}}\n"
+
+
 def wanted():
     """Returns the contents of each file, and what is wrong with the sources and the page."""
     found, faults = errors()
     page = page_with(read(PAGE), found)
-    return {PAGE: page, MANUAL: manual_with(read(MANUAL), page), TABLE: table_of(page)}, faults + faults_of(page, found)
+    said = refusals_of(page)
+    files = {PAGE: page, MANUAL: manual_with(read(MANUAL), page), TABLE: table_of(page), SPEC: spec_of(said), CODE: code_of(said)}
+    return files, faults + faults_of(page, found)
 
 
 def main(words):

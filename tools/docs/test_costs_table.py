@@ -16,6 +16,7 @@ sys.dont_write_bytecode = True
 sys.path.append(f"{os.path.dirname(os.path.realpath(__file__))}/../gate")
 import costs_table  # noqa: E402
 import pictures  # noqa: E402
+import run_tests  # noqa: E402
 import times  # noqa: E402
 from test_gate import text_of, write  # noqa: E402
 
@@ -101,4 +102,4 @@ class Table(unittest.TestCase):
 
 
 if __name__ == "__main__":
-    unittest.main()
+    run_tests.main()

@@ -15,6 +15,7 @@ from unittest import mock
 sys.dont_write_bytecode = True
 sys.path.append(f"{os.path.dirname(os.path.realpath(__file__))}/../gate")
 import errors  # noqa: E402
+import run_tests  # noqa: E402
 from test_gate import TOP, text_of, write  # noqa: E402
 
 sys.path.insert(0, f"{TOP}/examples/ci")
@@ -71,7 +72,7 @@ class Room(unittest.TestCase):
         patched = mock.patch.object(errors, "TOP", self.top)
         patched.start()
         self.addCleanup(patched.stop)
-        for path, text in (("crates/pg_lex/src/error.rt", SOURCE), (errors.PAGE, PAGE), (errors.MANUAL, MANUAL), (errors.TABLE, "")):
+        for path, text in (("crates/pg_lex/src/error.rt", SOURCE), (errors.PAGE, PAGE), (errors.MANUAL, MANUAL), (errors.TABLE, ""), (errors.SPEC, ""), (errors.CODE, "")):
             write(f"{self.top}/{path}", text)
 
     def run_with(self, word):
@@ -111,12 +112,16 @@ class Files(Room):
             f'.TP\n.BI E104 " NUMBER"\nA bound is bad at field NUMBER.\n{errors.END}.SH NEXT\n'))
         made = {}
         exec(text_of(f"{self.top}/{errors.TABLE}"), made)
+        self.assertIn('if code == 101 then codes "The first `\\"x\\"` is bad."\n', text_of(f"{self.top}/{errors.SPEC}"))
+        self.assertIn('        104 => "A bound is bad at field NUMBER.",\n', text_of(f"{self.top}/{errors.CODE}"))
+        self.assertNotIn("memory", text_of(f"{self.top}/{errors.SPEC}") + text_of(f"{self.top}/{errors.CODE}"))
         self.assertEqual(made["ERRORS"], {"E001": ("Out of memory.", "Have more."), "E101": ('The first `"x"` is bad.', "Read the page."),
                                           "E104": ("A bound is bad at field NUMBER.", "Have more.")})
 
     def test_each_file_is_compared(self):
         self.run_with("--write")
         for path, old in ((errors.PAGE, "Out of memory."), (errors.MANUAL, "Out of memory."), (errors.TABLE, "Read the page."),
+                          (errors.SPEC, "A bound"), (errors.CODE, "A bound"),
                           ("crates/pg_lex/src/error.rt", "Out of memory.")):
             before = text_of(f"{self.top}/{path}")
             self.changed(path, old, "Something else.")
@@ -166,4 +171,4 @@ class Sentences(unittest.TestCase):
 
 
 if __name__ == "__main__":
-    unittest.main()
+    run_tests.main()

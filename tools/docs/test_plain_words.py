@@ -15,6 +15,7 @@ from unittest import mock
 sys.dont_write_bytecode = True
 sys.path.append(f"{os.path.dirname(os.path.realpath(__file__))}/../gate")
 import plain_words  # noqa: E402
+import run_tests  # noqa: E402
 from test_gate import text_of, write  # noqa: E402
 
 GOOD = "# A page\n\nEach field has a number, and the reader takes it from the tag. The number comes first.\n"
@@ -125,4 +126,4 @@ class Prose(Folder):
 
 
 if __name__ == "__main__":
-    unittest.main()
+    run_tests.main()

@@ -3,14 +3,23 @@
 # and its descriptor sets; the commands of README.md, of the pages below `docs`, and of the page for `man`; the script for continuous
 # integration; what the scripts that start the program say on a terminal; and what `main` ends with on a full device, on an argument that
 # isn't UTF-8, and where memory is refused.
-# usage: tools/docs/try_examples.sh [PROGRAM]    by default the script `protogate` at the top, which starts the proved program alone
+# usage: tools/docs/try_examples.sh [--without-memory] [PROGRAM]    by default the script `protogate` at the top, which starts the proved program
+# alone. With --without-memory no memory is refused: a program that is compiled with checks doesn't ask the C library for it.
 # Blocks of commands that call `protoc` want it on the path, and are passed over, with a line, where it isn't; so is what
 # is said on a terminal where there is no `script` of util-linux, or none of the other tools that it takes, and what is said where
 # memory is refused where there is no `cc`.
 set -u
 root=$(CDPATH= cd -- "$(dirname -- "$0")/../.." && pwd -P) || exit 3
+refuses=yes
+if [ "${1-}" = --without-memory ]; then
+    refuses=no
+    shift
+fi
 program=$(readlink -f -- "${1:-"$root/protogate"}") || exit 3
 export PROTOGATE_PROVED_ONLY=1
+for name in $(env | sed -n 's/^\(GIT_[A-Z_]*\)=.*/\1/p'); do
+    unset "$name"
+done
 "$program" --version >/dev/null
 [ $? -ne 127 ] || exit 3
 room=$(mktemp -d) || exit 3
@@ -158,18 +167,22 @@ try_status() {
     compare "$*" "status $wanted" "$("$@" >/dev/null 2>&1; echo "status $?")"
 }
 
-# A repository's scripts with a program that answers by its first word: `gate` takes two seconds, `show` none, `verify` stops, `types`
-# refuses, and `compile` says what the C library is asked for.
+# A repository's scripts with a program that answers by its first word: `gate` goes on until it is said to be at work, `gate-all` takes longer
+# than that, `show` takes no time, `verify` stops, `types` refuses, and `compile` says what the C library is asked for. The scripts say so after
+# three seconds instead of one: on a busy machine what takes no time may take that.
 make_slow_program() {
     mkdir -p slow/tools/dist slow/docs slow/crates/protogate/out slow/crates/protogate/src slow/crates/protogate/specs && cp -- "$root/protogate" slow && cp -R -- "$root/examples" slow \
         && cp -R -- "$root/tools/install.sh" "$root/tools/report.py" slow/tools \
         && cp -R -- "$root/tools/dist/completions" slow/tools/dist \
         && cp -- "$root/docs/protogate.1" "$root/docs/protogate-ci.1" "$root/docs/protogate-report.1" slow/docs \
         && : >slow/crates.txt || return 1
+    sed -i 's/^    sleep 1$/    sleep 3/; s/^AT_WORK = 1$/AT_WORK = 3/' slow/protogate slow/tools/install.sh slow/examples/ci/said.py
+    [ "$(grep -lE '^    sleep 3$|^AT_WORK = 3$' slow/protogate slow/tools/install.sh slow/examples/ci/said.py | wc -l)" -eq 3 ] || return 1
     cat >slow/crates/protogate/out/protogate <<'END'
 #!/bin/sh
 case $1 in
-    gate) sleep 2 ;;
+    gate) for turn in $(seq 600); do ! grep -q 'at work' "$typed" || break; sleep 0.1; done ;;
+    gate-all) sleep 4 ;;
     verify) kill -STOP $$ ;;
     show) ;;
     compile) echo "$GLIBC_TUNABLES" ;;
@@ -178,27 +191,32 @@ case $1 in
 esac
 END
     chmod 755 slow/crates/protogate/out/protogate || return 1
-    kit=$(command -v rt) && ln -s "$kit" slow/crates/protogate/out/protogate.kit
-    : >slow/crates/protogate/out/protogate.begun \
-        && slow/tools/install.sh "slow/o'clock" >/dev/null
+    : >slow/crates/protogate/out/protogate.begun
+    if kit=$(command -v rt); then
+        ln -s "$kit" slow/crates/protogate/out/protogate.kit
+        printf 'a kit\n%s %s\n' "$(stat -Lc %i -- "$kit")" "$(sha256sum <"$kit" | cut -d ' ' -f 1)" >slow/crates/protogate/out/protogate.begun
+    fi
+    slow/tools/install.sh "slow/o'clock" >/dev/null
 }
 
-# What a shell prints on a terminal that runs these lines, where `$slow` is the script that starts the program.
+# What a shell prints on a terminal that runs these lines, where `$slow` is the script that starts the program, and `$typed` has what is printed.
 said_on_terminal() {
-    SHELL=/bin/sh slow=$1 script -qec "$2" /dev/null </dev/null | tr -d '\r'
+    typed=$room/typed
+    rm -f -- "$typed"
+    SHELL=/bin/sh slow=$1 typed=$typed script -qefc "$2" "$typed" </dev/null | tr -d '\r'
 }
 
-# A shell that starts a run which stops itself, and goes on with it a second and more after it has stopped.
-stopped='"$slow" verify & for turn in 1 2 3 4 5 6 7 8 9 10; do case $(ps -o stat= -p $!) in T*) break ;; esac; sleep 1; done; sleep 1.5; kill -CONT $!; wait'
+# A shell that starts a run which stops itself, and goes on with it three seconds and more after it has stopped.
+stopped='"$slow" verify & for turn in $(seq 600); do case $(ps -o stat= -p $!) in T*) break ;; esac; sleep 0.2; done; sleep 4; kill -CONT $!; wait'
 
-# A run of two seconds is said to be at work, by its first word alone, and only where standard error is a terminal. One that has
+# A run of some seconds is said to be at work, by its first word alone, and only where standard error is a terminal. One that has
 # ended isn't, whether or not anybody waits for it, nor one that is stopped. The script leaves no process that has a file open.
 try_terminal() {
     at_work='protogate: still at work: gate'
-    compare "$1: two seconds" "$at_work" "$(said_on_terminal "$1" '"$slow" gate "a\\nb" "$(printf "\033[7m")"')"
-    compare "$1: not on a terminal" "" "$(said_on_terminal "$1" '"$slow" gate 2>said; cat said')"
-    compare "$1: ended" "" "$(said_on_terminal "$1" '"$slow" show; sleep 2')"
-    compare "$1: ended, and not waited for" "" "$(said_on_terminal "$1" '"$slow" show & exec sleep 2')"
+    compare "$1: some seconds" "$at_work" "$(said_on_terminal "$1" '"$slow" gate "a\\nb" "$(printf "\033[7m")"')"
+    compare "$1: not on a terminal" "" "$(said_on_terminal "$1" '"$slow" gate-all 2>said; cat said')"
+    compare "$1: ended" "" "$(said_on_terminal "$1" '"$slow" show; sleep 4')"
+    compare "$1: ended, and not waited for" "" "$(said_on_terminal "$1" '"$slow" show & exec sleep 4')"
     compare "$1: stopped" "" "$(said_on_terminal "$1" "$stopped")"
     compare "$1: an open file" "free" "$(said_on_terminal "$1" '(flock -n 9; "$slow" show) 9>lock; flock -w 0.5 lock echo free')"
 }
@@ -283,7 +301,10 @@ try_refused_memory() {
 
 # Refuses memory in turn to each subcommand, to help and to a word that is none.
 try_memory() {
-    if ! command -v cc >/dev/null; then
+    if [ $refuses = no ]; then
+        echo "passed over, of a program with checks: what is said where memory is refused"
+        return
+    elif ! command -v cc >/dev/null; then
         echo "passed over, without cc: what is said where memory is refused"
         return
     fi

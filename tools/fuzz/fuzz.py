@@ -8,14 +8,18 @@ processes side by side as there are processors. That takes a minute or two of fo
 SECONDS (600), and says how many were. What is changed are the repository's own inputs (tools/fuzz/fuzz_seeds.py), one to four times each
 (tools/fuzz/fuzz_changes.py). The input of a kind and number is the same for a seed, however many are tried.
 
-Asked of every run: it ends within ten seconds with a status from 0 to 5, by no signal, with nothing on standard error, and prints
-just what docs/USAGE.md and docs/ERRORS.md say of that subcommand and status. Asked of what is accepted:
+Asked of every run: it ends within a minute with a status from 0 to 5, by no signal, with nothing on standard error, and prints
+just what docs/USAGE.md and docs/ERRORS.md say of that subcommand and status. Of one in eight inputs a call is made again with `--json`: it
+ends with the same status, and its objects have the words of the lines to the byte (tools/fuzz/fuzz_json.py). Of one in eight a call names some of
+the input's files in lists: it says what it says with the names as words, to the byte, or what is wrong with a list (tools/fuzz/fuzz_lists.py).
+Asked of what is accepted:
 
 - `text`, `set`: the certificate of `gate --cert` passes `verify`, with the same status and the length of its root, and names the view
   that was asked for, by numbers or by names. Of one in eight `gate` without `--cert` says the same; of one in sixteen `--both` begins with that, the
   witness has its length, the old side reads it and writes it again, and `--explain` says what `show` says of it. Of one in eight `types` names the types of the changed side, each
   by its full name and the one that was asked for among them where the gate answers; it refuses what `gate` refuses of that side. Of one in
-  sixteen `gate-all` says of all types what `gate` says of one and `types` names, and `show` reads the message of a cause as it says
+  sixteen `gate-all` says of all types what `gate` says of one and `types` names, `show` reads the message of a cause as it says, and `--notes`
+  adds lines of notes alone
 - `text`: what `compile` refuses, `gate` refuses alike; the set that `compile` writes is one for protoc, where it is there, and, of one in
   four, for `show`
 - certificate: `gate` answers what `verify` says has been proved
@@ -29,7 +33,6 @@ failed, or where not all were tried in time.
 import argparse
 import collections
 import itertools
-import multiprocessing
 import os
 import random
 import resource
@@ -44,13 +47,16 @@ import time
 
 sys.dont_write_bytecode = True
 import fuzz_gate_all  # noqa: E402
+import fuzz_json  # noqa: E402
+import fuzz_lists  # noqa: E402
 from fuzz_changes import changed_certificate, changed_message, changed_text  # noqa: E402
 from fuzz_grammar import ANSWERS, PROTOC_ALONE  # noqa: E402
 from fuzz_seeds import ROOT, Seed, all_seeds  # noqa: E402
+from workers import called  # noqa: E402
 
 KINDS = ("text", "set", "certificate", "message")
 # How many seconds a run may take.
-LIMIT = 10
+LIMIT = 60
 # The files by which a starter is asked and answers (tools/fuzz/start_many.c).
 ASKED, TOLD = 200, 201
 # A share of the inputs ends with as many failures.
@@ -58,7 +64,9 @@ MOST_FAILURES = 10
 # How the view is asked for by which enums are compared; without words it is that by numbers.
 VIEWS = ([], ["--view", "numbers"], ["--view", "names"])
 # Of so many inputs one is asked further things of: a start of the program takes longer than all else that is done with an input.
-SHOW_SHARE, TYPES_SHARE, PLAIN_SHARE, BOTH_SHARE, ALL_SHARE = 4, 8, 8, 16, 16
+SHOW_SHARE, TYPES_SHARE, PLAIN_SHARE, BOTH_SHARE, ALL_SHARE, JSON_SHARE, LIST_SHARE = 4, 8, 8, 16, 16, 8, 8
+# The subcommands that take lists, with what is in front of the options of each side.
+LISTED = {"compile": ("",), "types": ("",), "gate-all": ("old-", "new-")}
 PROTOC = shutil.which("protoc")
 ACCEPTED = {"compile": (0,), "gate": (0, 1), "verify": (0, 1, 5), "show": (0,), "types": (0,)}
 
@@ -90,7 +98,8 @@ class Starter:
         requests, answers = os.pipe(), os.pipe()
         inside = [*enumerate(ends), (ASKED, requests[0]), (TOLD, answers[1])]
         actions = [(os.POSIX_SPAWN_DUP2, file, end) for end, file in inside]
-        self.pid = os.posix_spawn(program, [program], {"LD_PRELOAD": library}, file_actions=actions)
+        checks = {it: os.environ[it] for it in ("ASAN_OPTIONS",) if it in os.environ}
+        self.pid = os.posix_spawn(program, [program], {"LD_PRELOAD": library, **checks}, file_actions=actions)
         os.close(requests[0]), os.close(answers[1])
         self.requests, self.answers = requests[1], answers[0]
         signal.signal(signal.SIGALRM, overdue)
@@ -127,9 +136,9 @@ class Starter:
 class Room:
     """A folder of its own with the files of an input, in which the program runs. It keeps the commands of the input's runs."""
 
-    def __init__(self, program, library):
-        self.program, self.calls, self.runs = program, [], 0
-        self.path = tempfile.mkdtemp(prefix="protogate-fuzz-", dir="/dev/shm" if os.access("/dev/shm", os.W_OK) else None)
+    def __init__(self, options):
+        self.program, self.calls, self.runs = options.program, [], 0
+        self.path = tempfile.mkdtemp(dir=options.rooms)
         os.chdir(self.path)
         os.mkdir("old")
         os.mkdir("new")
@@ -137,7 +146,7 @@ class Room:
         resource.setrlimit(resource.RLIMIT_STACK, (hard, hard))
         # What a run prints goes to memory, which is emptied for the next: no file is opened for a run.
         self.said, self.faults = os.memfd_create("said"), os.memfd_create("faults")
-        self.starter = Starter(program, library, [os.open(os.devnull, os.O_RDONLY), self.said, self.faults])
+        self.starter = Starter(options.program, options.library, [os.open(os.devnull, os.O_RDONLY), self.said, self.faults])
 
     def clear(self):
         self.calls = []
@@ -161,11 +170,15 @@ class Room:
         os.chdir(ROOT)
         shutil.rmtree(self.path)
 
-    def run(self, words, wanted=None, keep=None):
-        """Runs the program, judges its answer by what such a call may print, and returns its status and what it printed."""
+    def ran(self, words, keep=None):
+        """Runs the program, and returns its status and what it printed on both ends."""
         self.calls.append((words, keep))
         self.runs += 1
-        status, said, faults = self.starter.status_of(words), taken(self.said), taken(self.faults)
+        return self.starter.status_of(words), taken(self.said), taken(self.faults)
+
+    def run(self, words, wanted=None, keep=None):
+        """Runs the program, judges its answer by what such a call may print, and returns its status and what it printed."""
+        status, said, faults = self.ran(words, keep)
         forms = ANSWERS[wanted or words[0]]
         if status not in forms:
             raise Failure(f"status {status}: {shlex.join(words)}: {quoted(said)} {quoted(faults)}")
@@ -288,7 +301,7 @@ def is_refused_alike(refused, said, side):
 def judge_protoc(path, name):
     """Asks protoc to read a set. What it alone refuses are whole lines of its own, each of a form that is listed."""
     words = ["protoc", f"--descriptor_set_in={path}", "-o", os.devnull, name]
-    run = subprocess.run(words, stdin=subprocess.DEVNULL, capture_output=True, timeout=6 * LIMIT, check=False)
+    run = subprocess.run(words, stdin=subprocess.DEVNULL, capture_output=True, timeout=LIMIT, check=False)
     expect(run.returncode == 0 or PROTOC_ALONE.fullmatch(run.stderr), f"{shlex.join(words)}: {quoted(run.stderr)}")
 
 
@@ -317,6 +330,10 @@ def judge_all(room, random_, sides, type_):
         return
     answer = fuzz_gate_all.Answer(whole)
     expect(plain == (status_of_all, answer.plain), f"gate-all: {quoted(plain[1])}, with --explain: {quoted(whole)}")
+    status_with_notes, noted = room.run(["gate-all", *sides, *view, "--notes"], "noted")
+    rest = noted.removeprefix(answer.plain).splitlines()
+    expect(status_with_notes == status_of_all and noted.startswith(answer.plain) and all(it.startswith(b"note ") for it in rest),
+           f"gate-all: {quoted(plain[1])}, with --notes: {quoted(noted)}")
     types = [room.run(["types", "--dir", it, sides[sides.index("--" + it) + 1]])[1].split() for it in ("old", "new")]
     for fault in (*fuzz_gate_all.faults(answer, status_of_all, *types), *fuzz_gate_all.faults_beside_gate(answer, said, type_.encode())):
         raise Failure(f"gate-all, {fault}: {quoted(whole)}, gate: {quoted(said)}")
@@ -326,6 +343,48 @@ def judge_all(room, random_, sides, type_):
         is_deep = shown[0].startswith(b"refused E608")
         expect(shown == readings and (is_deep or shown[0].endswith(b"again %s\n" % witness) and b"unknown" not in shown[0]),
                f"gate-all: {quoted(whole)}, shown: {quoted(shown[0])} {quoted(shown[1])}")
+
+
+def files_in(folder):
+    """Returns the paths of the files of an input below one of its folders."""
+    return sorted(os.path.relpath(f"{at}/{it}", folder) for at, _, names in os.walk(folder) for it in names)
+
+
+def words_of_side(before, folder, files):
+    """Returns the words that name these files of a side."""
+    return [f"--{before}dir", folder, *(f"--{before[:-1]}={it}" if before else it for it in files)]
+
+
+def judge_lists(room, random_):
+    """Makes a call with lists of the input's files. Where none is at fault, it says what it says with the names as words."""
+    command = random_.choice(sorted(LISTED))
+    call, plain, fault, named = [command], [command], None, []
+    for before in LISTED[command]:
+        folder = random_.choice([it for it in ("old", "new", ".") if files_in(it)])
+        side, path = fuzz_lists.Listed(random_, files_in(folder)), before + random_.choice(("l", "l.proto", "l.pb"))
+        room.put(".", {path: side.data})
+        found = fuzz_lists.fault_of(path, side.data)
+        fault = fault or found and (found[0], f"refused {before[:-1]} {found[1]}\n".replace("  ", " ").encode(), b"")
+        listed = fuzz_lists.names_in(side.data)
+        call += [*words_of_side(before, folder, side.words), f"--{before}files-from={path}"]
+        plain += words_of_side(before, folder, [*side.words, *listed])
+        named += listed
+    answer = room.ran(call)
+    if fault or fuzz_lists.can_be_words(named):
+        wanted = fault or (*room.run(plain), b"")
+        expect(answer == wanted, f"{shlex.join(call)}: {answer[0]} {quoted(answer[1])} {quoted(answer[2])}, wanted: {wanted[0]} {quoted(wanted[1])}")
+
+
+def judge_json(room, random_):
+    """Makes a call of an input again with `--json`, and compares the words of its objects with the lines."""
+    calls = [words for words, _ in room.calls if words[0] != "compile"]
+    words = random_.choice(calls)
+    answer, (status, said, faults) = room.ran(words), room.ran([*words, "--json"])
+    try:
+        again = (status, fuzz_json.words_of(said), faults)
+    except fuzz_json.Wrong as fault:
+        raise Failure(f"{shlex.join(words)} --json: {fault}: {quoted(said)}") from None
+    expect(again == answer, f"{shlex.join(words)}: {answer[0]} {quoted(answer[1])}, with --json: {status} {quoted(said)} {quoted(faults)}")
 
 
 def judge_sides(room, random_, seed, side, type_):
@@ -447,6 +506,13 @@ def try_one(room, options, seeds, kind, number, counts):
     room.clear()
     try:
         is_accepted = TRIES[kind](room, random.Random(f"{options.seed} {kind} {number}"), seeds)
+        # (by numbers of its own, so that the input of a kind and number stays what it was)
+        random_ = random.Random(f"{options.seed} {kind} {number} json")
+        if random_.randrange(JSON_SHARE) == 0:
+            judge_json(room, random_)
+        random_ = random.Random(f"{options.seed} {kind} {number} lists")
+        if random_.randrange(LIST_SHARE) == 0:
+            judge_lists(room, random_)
         counts[kind, "accepted" if is_accepted else "refused"] += 1
         return ""
     except Failure as failure:
@@ -467,10 +533,10 @@ def inputs_of(options, share):
 def try_share(options, seeds, share):
     """Tries a share of the inputs, as far as the time goes. Returns its counts, and what to print of each failure, with its index in the
     order."""
-    room, counts, failures = Room(options.program, options.library), collections.Counter(), []
+    room, counts, failures = Room(options), collections.Counter(), []
     try:
         for kind, number in inputs_of(options, share):
-            if time.time() > options.end or len(failures) >= MOST_FAILURES:
+            if time.monotonic() > options.end or len(failures) >= MOST_FAILURES:
                 break
             failure = try_one(room, options, seeds, kind, number, counts)
             if failure:
@@ -483,7 +549,7 @@ def try_share(options, seeds, share):
 
 def made_seeds(options, seeds):
     """Returns the sets that the program makes of the source files of each change, and the certificates between them, by both views."""
-    room, sets, certificates = Room(options.program, options.library), [], []
+    room, sets, certificates = Room(options), [], []
     for seed in seeds:
         room.clear()
         room.put("old", seed.old_files)
@@ -504,8 +570,7 @@ def try_all(options, seeds):
     sets, certificates = made_seeds(options, seeds["text"])
     seeds["set"] += sets
     seeds["certificate"] += certificates
-    with multiprocessing.get_context("fork").Pool(options.jobs) as pool:
-        return pool.starmap(try_share, [(options, seeds, share) for share in range(options.jobs)], 1)
+    return called(try_share, [(options, seeds, share) for share in range(options.jobs)], options.jobs)
 
 
 def options_of():
@@ -521,14 +586,15 @@ def options_of():
 
 
 def main():
-    options, begun = options_of(), time.time()
+    options, begun = options_of(), time.monotonic()
     if not os.access(options.program, os.X_OK):
         sys.exit(f"no program: {options.program}")
     if not PROTOC:
         print("passed over, without protoc: sets that `compile` writes, read by it")
     options.end = begun + options.seconds
-    with tempfile.TemporaryDirectory(prefix="protogate-fuzz-") as folder:
-        options.library = build_starter(folder)
+    memory = "/dev/shm" if os.access("/dev/shm", os.W_OK) else None
+    with tempfile.TemporaryDirectory(prefix="protogate-fuzz-") as folder, tempfile.TemporaryDirectory(prefix="protogate-fuzz-", dir=memory) as rooms:
+        options.library, options.rooms = build_starter(folder), rooms
         shares = try_all(options, all_seeds())
     counts = sum((it for it, _ in shares), collections.Counter())
     for _, _, failure in sorted(it for _, failures in shares for it in failures):
@@ -538,7 +604,7 @@ def main():
     failed = sum(counts[kind, "failed"] for kind in KINDS)
     is_short = not options.only and min(tried.values()) < options.count
     short = f"not all {options.count} of each were tried in {options.seconds:g} seconds; " if is_short else ""
-    end = f"{short}{counts['runs']} runs; {failed} failures; seed {options.seed}; {time.time() - begun:.0f} seconds"
+    end = f"{short}{counts['runs']} runs; {failed} failures; seed {options.seed}; {time.monotonic() - begun:.0f} seconds"
     print("; ".join([*parts, end]))
     return 1 if failed or is_short else 0
 

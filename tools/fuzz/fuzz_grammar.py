@@ -25,9 +25,16 @@ BREAKS = rb"breaks %s %s\nwitness %s\n(?:%s)+" % (NAME, NUMBER, HEX, STEP)
 
 FIELDS = rb"%s %s %s %s" % (NAME, STEP_PLACE, NAME, STEP_PLACE)
 CASE = rb"(?:unlike|value|name|list-to-one|map|map-key|map-value)"
-CAUSE = rb"cause (?:%s %s %s %s|oneof %s %s %s %s) %s\n" % (CASE, NUMBER, HEX, NUMBER, NUMBER, HEX, NUMBER, FIELDS, FIELDS)
+CAUSE = rb"cause (?:%s %s %s %s|oneof %s %s %s(?: %s)+) %s\n" % (CASE, NUMBER, HEX, NUMBER, NUMBER, HEX, NUMBER, FIELDS, FIELDS)
 TYPE = rb"(?:%s|breaks %s %s\n)" % (COMPATIBLE, NAME, NUMBER)
 REMOVED, ADDED = rb"removed %s\n" % NAME, rb"added %s\n" % NAME
+GONE = rb"%s %s - -" % (NAME, STEP_PLACE)
+NOTE = rb"note (?:%s)\n" % b"|".join([
+    rb"field-renamed %s %s (?:-|%s)" % (NUMBER, FIELDS, NUMBER), rb"field-moved %s %s %s" % (NUMBER, FIELDS, NUMBER),
+    rb"number-unreserved %s %s" % (NUMBER, GONE), rb"(?:presence-dropped|number-to-list) %s %s" % (NUMBER, FIELDS),
+    rb"value-renamed -?\d+ %s" % FIELDS, rb"value-gone -?\d+ %s" % GONE,
+    rb"(?:method|service)-gone - %s" % GONE, rb"method-changed - %s" % FIELDS,
+])
 
 ITEM = rb"(?:int -?\d+|f32 [0-9a-f]{8}|f64 [0-9a-f]{16}|(?:text|bytes) %s|msg)" % BYTES
 SHOWN = rb"(?:  )*(?:%s %s (?:key %s value )?%s|unknown %s)\n" % (NUMBER, WORD, ITEM, ITEM, HEX)
@@ -51,10 +58,10 @@ NOT_PROVED = rb"E80[12567]|E803 %s %s|E804 %s %s %s [1-6]|E301 [^\n]*" % (NAME, 
 
 
 
-def all_of(cause):
-    """What `gate-all` prints, where a cause is of this form."""
-    return {0: rb"(?:%s)*(?:%s)*" % (COMPATIBLE, ADDED), 1: rb"(?:%s)+(?:%s)+(?:%s)*" % (cause, TYPE, ADDED),
-            2: rb"(?:%s)*(?:%s)*(?:%s)+(?:%s)*|%s" % (cause, TYPE, REMOVED, ADDED, refused(OF_A_SIDE)), 3: refused(FAILED_OF_A_SIDE)}
+def all_of(cause, last=b""):
+    """What `gate-all` prints, where a cause is of this form, and the last lines of an answer of that one."""
+    return {0: rb"(?:%s)*(?:%s)*%s" % (COMPATIBLE, ADDED, last), 1: rb"(?:%s)+(?:%s)+(?:%s)*%s" % (cause, TYPE, ADDED, last),
+            2: rb"(?:%s)*(?:%s)*(?:%s)+(?:%s)*%s|%s" % (cause, TYPE, REMOVED, ADDED, last, refused(OF_A_SIDE)), 3: refused(FAILED_OF_A_SIDE)}
 
 
 FORMS = {
@@ -67,6 +74,7 @@ FORMS = {
     "explained": {1: BREAKS + rb"old\n%snew\n%s" % (READING, READING)},
     "gate-all": all_of(CAUSE),
     "causes": all_of(CAUSE + rb"old\n%snew\n%s" % (READING, READING)),
+    "noted": all_of(CAUSE, rb"(?:%s)*" % NOTE),
     "verify": {0: COMPATIBLE, 1: rb"breaks %s %s\n" % (NAME, NUMBER), 2: refused(OF_A_SIDE, NOT_PROVED),
                3: refused(FAILED_OF_A_SIDE), 5: rb"bound %s %s\n" % (NAME, NUMBER)},
     "show": {0: rb"(?:%s)*again %s\n" % (SHOWN, BYTES), 2: refused(FAULT, rb"E90[15]"), 3: refused(FAILED)},

@@ -8,13 +8,14 @@
 #include <sys/wait.h>
 #include <unistd.h>
 
-enum { REQUESTS = 200, ANSWERS = 201, MOST_BYTES = 1 << 18, MOST_WORDS = 100 };
+enum { REQUESTS = 200, ANSWERS = 201, MOST_BYTES = 1 << 18 };
 
 typedef int (*entry)(int, char **, char **);
 typedef int (*start)(entry, int, char **, void (*)(void), void (*)(void), void (*)(void), void *);
 
 static char text[MOST_BYTES];
-static char *words[MOST_WORDS + 1];
+/* The program's name, at most a word a byte, and the end. */
+static char *words[MOST_BYTES + 2];
 
 /* Takes so many bytes of the request, or ends where there is none. */
 static void take(void *to, size_t count) {
@@ -37,7 +38,7 @@ static int take_words(char *program) {
     if (length > MOST_BYTES) _exit(1);
     take(text, length);
     words[count++] = program;
-    for (char *at = text; at < text + length && count < MOST_WORDS; at += strlen(at) + 1) words[count++] = at;
+    for (char *at = text; at < text + length; at += strlen(at) + 1) words[count++] = at;
     words[count] = 0;
     return count;
 }

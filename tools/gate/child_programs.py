@@ -62,10 +62,11 @@ def processes():
     return found
 
 
-def begun(sessions):
-    """Returns the processes that this one began, and those that they did, with all of these sessions. Adds the sessions of each, but not its own."""
-    own, found, left = os.getpid(), set(), [os.getpid()]
-    running = processes()
+def begun(sessions, top=None):
+    """Returns the processes that one began, by default this one, and those that they did, with all of these sessions. Adds the sessions of each, but not
+    this one's own."""
+    own, found = os.getpid(), set()
+    left, running = [top or own], processes()
     while left:
         above = left.pop()
         new = [it for it, (parent, _) in running.items() if parent == above and it not in found]
@@ -90,6 +91,37 @@ def end_all():
         time.sleep(0.05)
 
 
+def kill(run):
+    """Kills a program that was started here, with all that it began. All are stopped first: one that begins another in its last moment would leave it,
+    and nobody could tell whose it was."""
+    until, sessions, known = time.monotonic() + PATIENCE, {run.pid} & {*RUNNING}, set()
+    while sessions and (found := begun(sessions, run.pid)) and time.monotonic() < until:
+        number = signal.SIGKILL if found <= known else signal.SIGSTOP
+        for pid in found:
+            with contextlib.suppress(OSError):
+                os.kill(pid, number)
+        known |= found
+        time.sleep(0.05)
+
+
+@contextlib.contextmanager
+def limited(run, seconds):
+    """Kills a program, with all that it began, where it runs longer than so many seconds."""
+    limit = threading.Timer(seconds, kill, [run])
+    limit.daemon = True
+    limit.start()
+    try:
+        yield
+    finally:
+        limit.cancel()
+
+
+def end_in_words(name, status, seconds):
+    """Returns a line that says how a program ended, after so many seconds, where that isn't well."""
+    how = f"killed by {signal.Signals(-status).name}" if status < 0 else f"ended with status {status}"
+    return f"{name}: {how} after {seconds:.0f} seconds\n" if status else ""
+
+
 @contextlib.contextmanager
 def all_ended():
     """Ends all that was begun meanwhile, where an error ends what is inside."""
@@ -107,8 +139,23 @@ def end(number, _):
     sys.exit(128 + number)
 
 
+def insist(pipe):
+    """Sends a signal again until the main thread heeds it: one that comes just before that thread begins to wait is noted by Python, but ends no
+    wait. Others that the program heeds are noted too."""
+    number = None
+    while number not in SIGNALS:
+        number = os.read(pipe, 1)[0]
+    while not STATE["is_over"]:
+        signal.pthread_kill(threading.main_thread().ident, number)
+        time.sleep(0.05)
+
+
 def on_signals():
     """Has signals that end this program end all that it started."""
+    noted, notes = os.pipe()
+    os.set_blocking(notes, False)
+    signal.set_wakeup_fd(notes, warn_on_full_buffer=False)
+    threading.Thread(target=insist, args=(noted,), daemon=True).start()
     for it in SIGNALS:
         if signal.getsignal(it) is not signal.SIG_IGN:
             signal.signal(it, end)

@@ -122,14 +122,21 @@ def room_in(folder):
     return found.f_bavail * found.f_frsize
 
 
-def missing(programs, places):
-    """Returns a line for each of these programs that isn't on the path, and for each of these folders that can't be written or has less room than the
-    bytes that it is given with."""
+def much(count):
+    """Returns a count of bytes in words."""
+    return f"some {count / 1e9:.0f} GB" if count >= 1e9 else f"some {count / 1e6:.0f} MB"
+
+
+def missing(programs, places, memory=0):
+    """Returns a line for each of these programs that isn't on the path, for each of these folders that can't be written or has less room than the
+    bytes that it is given with, and where less memory is free than these bytes. RT_JOBS goes on all the same."""
     found = [f"there is no {it} on the path: {why}" for it, why in programs.items() if not shutil.which(it)]
+    if memory and not asked() and free_memory() < memory:
+        found.append(f"{free_memory() / 1e9:.1f} GB of memory are free, and this takes {much(memory)}; with RT_JOBS=1 it is tried all the same")
     for folder, wanted in places.items():
         if not is_writable(folder):
             found.append(f"{folder} can't be written")
         elif room_in(folder) < wanted:
             more = "; TMPDIR names another folder for temporary files" if folder == tempfile.gettempdir() else ""
-            found.append(f"{folder} has room for {room_in(folder) / 1e9:.1f} GB, and this takes some {wanted / 1e9:.0f} GB{more}")
+            found.append(f"{folder} has room for {room_in(folder) / 1e9:.1f} GB, and this takes {much(wanted)}{more}")
     return found

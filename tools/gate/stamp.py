@@ -1,9 +1,10 @@
-"""What is beside the built program: when its sources were read and what they were, and the kit that proved it. The script `protogate` compares
-these.
+"""What is beside the built program: when its sources were read and what they were, and the kit that built it. The script `protogate` compares
+these, for the proved program and for one that is compiled without proof (unproved.py).
 
-The file protogate.begun has as its time when the build or the gate read the sources, and as its only line what `rt version` printed.
-protogate.sum has a checksum of these sources, as that script makes it; there is none where a crate came or went meanwhile. protogate.kit is
-another name of the kit's script, or a link to it where it can't have one.
+The file protogate.begun has as its time when the build or the gate read the sources, and as its first line what `rt version` printed; its second
+has the number of the kit's script in its file system, and a checksum of it. protogate.sum has a checksum of these sources, as that script makes
+it; there is none where a crate came or went meanwhile. protogate.kit is another name of the kit's script, or a link to it where it can't have
+one: then another script may take its place, and the second line tells.
 """
 
 import collections
@@ -11,12 +12,15 @@ import contextlib
 import hashlib
 import os
 import tempfile
+import time
 
 import kit
 
 PROGRAM = "protogate"
 # What of a crate the program is made of, and what is promised of it.
 PARTS = ("src", "specs")
+# So long the clock of a file system may stand still, in seconds: it goes on in steps, of some milliseconds or of two seconds.
+STEP = 10
 # When sources were read, in nanoseconds, and their checksum.
 Read = collections.namedtuple("Read", "at sum")
 
@@ -25,13 +29,24 @@ def out_of(top):
     return f"{top}/crates/{PROGRAM}/out"
 
 
-def now_in(folder):
-    """Returns the time now, by the clock of the folder's file system, in nanoseconds."""
+def time_in(folder):
+    """Returns the time of a file that is made now in a folder, in nanoseconds."""
     number, path = tempfile.mkstemp(prefix=".new-", dir=folder)
     os.close(number)
     found = os.stat(path).st_mtime_ns
     os.remove(path)
     return found
+
+
+def now_in(folder):
+    """Returns the time now, by the clock of the folder's file system, in nanoseconds, once that clock has gone on: each later change is younger than
+    that. Where it stands still, what was changed at this time counts as younger, too."""
+    now, until = time_in(folder), time.monotonic() + STEP
+    while time_in(folder) == now:
+        if time.monotonic() > until:
+            return now - 1
+        time.sleep(0.001)
+    return now
 
 
 def said_of_crates(top):
@@ -62,6 +77,18 @@ def sum_of(top):
     return hashlib.sha256(b"".join(sorted(lines))).hexdigest()
 
 
+def sum_of_files(top):
+    """Returns a checksum of the repository: of each file with its path, without what was built, and of the kit."""
+    found = ["\n".join(lines_of_kit())]
+    for at, below, names in os.walk(top):
+        is_crate = os.path.basename(os.path.dirname(at)) == "crates"
+        below[:] = [it for it in below if not (it == "out" and is_crate or it in (".git", "__pycache__"))]
+        for path in sorted(f"{at}/{it}" for it in names if os.path.isfile(f"{at}/{it}")):
+            with open(path, "rb") as file:
+                found.append(f"{hashlib.sha256(file.read()).hexdigest()} {os.path.relpath(path, top)}")
+    return hashlib.sha256("\n".join(sorted(found)).encode("utf-8", "surrogateescape")).hexdigest()
+
+
 def read_now(top):
     """Returns when the sources are read that are there now, and their checksum."""
     os.makedirs(out_of(top), exist_ok=True)
@@ -82,9 +109,9 @@ def replaced(path):
         os.rmdir(room)
 
 
-def write_sum(top, begun):
+def write_sum(top, begun, out=None):
     """Writes the checksum of the sources as they were read. Where crates came or went since, they may have done so twice: then there is none."""
-    path = f"{out_of(top)}/{PROGRAM}.sum"
+    path = f"{out or out_of(top)}/{PROGRAM}.sum"
     if all(os.stat(it).st_ctime_ns <= begun.at for it in (f"{top}/crates", f"{top}/crates.txt")):
         with replaced(path) as new, open(new, "w", encoding="utf-8") as file:
             file.write(f"{begun.sum}  -\n")
@@ -92,15 +119,56 @@ def write_sum(top, begun):
         os.remove(path)
 
 
-def write(top, begun):
-    """Notes that the program that is there was proved by this kit, of the sources as they were read."""
-    with replaced(f"{out_of(top)}/{PROGRAM}.kit") as path:
+def write(top, begun, out=None):
+    """Notes that the program in a folder, by default where the proved one is, was built by this kit, of the sources as they were read."""
+    out = out or out_of(top)
+    with replaced(f"{out}/{PROGRAM}.kit") as path:
         try:
             os.link(kit.script(), path)
         except OSError:
             os.symlink(kit.script(), path)
-    write_sum(top, begun)
-    with replaced(f"{out_of(top)}/{PROGRAM}.begun") as path:
+    write_sum(top, begun, out)
+    with replaced(f"{out}/{PROGRAM}.begun") as path:
         with open(path, "w", encoding="utf-8") as file:
-            file.write(f"{kit.version()}\n")
+            file.write("\n".join([*lines_of_kit(), ""]))
         os.utime(path, ns=(begun.at, begun.at))
+
+
+def lines_of_kit():
+    """Returns what tells this kit from others: what it says, and of its script the number and a checksum."""
+    with open(kit.script(), "rb") as file:
+        return [kit.version(), f"{os.fstat(file.fileno()).st_ino} {hashlib.sha256(file.read()).hexdigest()}"]
+
+
+def sources(top):
+    """Returns the folders and files of the crates that the program is made of."""
+    crates = [it for it in os.listdir(f"{top}/crates") if it.startswith("pg_") or it == PROGRAM]
+    folders = [f"{top}/crates/{it}/{part}" for it in crates for part in PARTS]
+    walks = [it for folder in folders for it in os.walk(folder, followlinks=True)]
+    return [*folders, *(f"{at}/{name}" for at, below, names in walks for name in (*below, *names))]
+
+
+def state(path):
+    """Returns what the system says of a file. A link that leads nowhere counts itself."""
+    return os.stat(path) if os.path.exists(path) else os.lstat(path)
+
+
+def is_unchanged(top, begun):
+    """Returns whether nothing was changed since the sources were read, not even for a while: by the system's own times, which nobody sets."""
+    paths = (f"{top}/crates", f"{top}/crates.txt", *sources(top))
+    return all(state(it).st_ctime_ns <= begun.at for it in paths) and sum_of(top) == begun.sum
+
+
+def is_of(program, top):
+    """Returns whether a program was built by this kit, of the sources that are there now, by what is beside it, as the script `protogate` asks: none of
+    them is younger."""
+    try:
+        at = os.stat(f"{program}.begun").st_mtime_ns
+        with open(f"{program}.begun", encoding="utf-8") as begun, open(f"{program}.sum", encoding="utf-8") as file:
+            (version, script), was = begun.read().splitlines(), file.read().split()[0]
+        now, its_script = lines_of_kit()
+        is_kits = version == now and script.split()[1] == its_script.split()[1] and os.path.samefile(f"{program}.kit", kit.script())
+        is_young = any(state(it).st_mtime_ns > at for it in (kit.script(), *sources(top)))
+        return is_kits and not is_young and was == sum_of(top) and os.access(program, os.X_OK)
+    except (OSError, ValueError, IndexError):
+        return False

@@ -6,6 +6,7 @@ usage: tools/gate/test_gate.py    a few seconds
 
 import contextlib
 import fcntl
+import hashlib
 import io
 import os
 import resource
@@ -23,15 +24,16 @@ sys.path.append(f"{os.path.dirname(os.path.realpath(__file__))}/..")
 import build  # noqa: E402
 import child_programs  # noqa: E402
 import kit  # noqa: E402
-import machine  # noqa: E402
 import prove  # noqa: E402
+import run_tests  # noqa: E402
 import stamp  # noqa: E402
+import testers  # noqa: E402
 import times  # noqa: E402
 
 TOP = os.path.dirname(os.path.dirname(os.path.dirname(os.path.realpath(__file__))))
 LINE = "a kit of the tests"
 # So long something may take that takes a moment, in seconds: the gate keeps all processors busy beside these tests.
-PATIENCE = 120
+PATIENCE = 600
 # A kit that says of each crate that it is proved. It locks the crate's folder, and takes as long as it is asked to.
 RT = """#!/bin/sh
 wait_a_while() {
@@ -104,6 +106,11 @@ class Room(unittest.TestCase):
             self.assertLess(time.monotonic(), until)
             time.sleep(0.02)
 
+    def stamp(self):
+        """Returns what has to stand beside a program of the kit."""
+        with open(f"{self.room}/kit/rt", "rb") as file:
+            return f"{LINE}\n{os.fstat(file.fileno()).st_ino} {hashlib.sha256(file.read()).hexdigest()}\n"
+
     def begun(self):
         return text_of(self.log).split() if os.path.exists(self.log) else []
 
@@ -147,8 +154,9 @@ class Signals(Room):
 
     def test_an_error_ends_the_gate_and_all_that_it_began(self):
         """As where nobody reads any longer what it says."""
-        write(f"{self.room}/kit/rt", RT.replace("wait_a_while ci\n", "echo one; echo two; wait_a_while ci\n"))
-        started = self.start("prove.py", "protogate", RT_SLEEP="300")
+        # (what was said before that may have fitted into the pipe)
+        write(f"{self.room}/kit/rt", RT.replace("wait_a_while ci\n", "while echo one; do sleep 0.1; done\n"))
+        started = self.start("prove.py", "protogate")
         started.stdout.readline()
         started.stdout.close()
         self.assertNotEqual(started.wait(timeout=PATIENCE), 0)
@@ -167,6 +175,13 @@ class Signals(Room):
         started.send_signal(signal.SIGHUP)
         self.assertEqual((started.wait(timeout=PATIENCE), self.begun()), (0, ["lib", "run"]))
 
+    def test_a_signal_that_is_noted_alone_is_heeded(self):
+        """Others that are noted before it end nothing."""
+        script = "import child_programs, os, signal, time; child_programs.on_signals(); "
+        script += f"os.write(signal.set_wakeup_fd(-1), bytes([signal.SIGALRM, signal.SIGTERM])); time.sleep({PATIENCE})"
+        done = subprocess.run([sys.executable, "-Bc", script], cwd=f"{TOP}/tools/gate", env=self.env, timeout=PATIENCE, check=False)
+        self.assertEqual(done.returncode, 128 + signal.SIGTERM)
+
     def test_what_ignores_the_signal_is_killed(self):
         script = "import child_programs; child_programs.PATIENCE = 0.2; child_programs.on_signals(); child_programs.run(['sh', '-c', 'trap \"\" TERM; echo >$RT_LOG; while :; do sleep 1; done'])"
         started = subprocess.Popen([sys.executable, "-Bc", script], cwd=f"{TOP}/tools/gate", env=self.env)
@@ -176,11 +191,22 @@ class Signals(Room):
 
 
 class Builds(Room):
+    def start_held(self):
+        """Starts a build whose first check goes on until it is let go."""
+        write(f"{self.room}/kit/rt", RT.replace("echo made", f"while [ -e '{self.room}/held' ]; do sleep 0.1; done && echo made"))
+        write(f"{self.room}/held", "")
+        started = self.start("build.py")
+        self.wait_for(self.begun)
+        return started
+
+    def let_go(self):
+        os.remove(f"{self.room}/held")
+
     def test_a_build_leaves_the_program_and_its_stamp(self):
         before = time.time_ns()
         status, said = self.run_to_end("build.py")
         self.assertEqual((status, self.begun()), (0, ["lib", "run"]), said)
-        self.assertEqual((text_of(f"{self.out}/protogate"), text_of(f"{self.out}/protogate.begun")), ("built\n", f"{LINE}\n"))
+        self.assertEqual((text_of(f"{self.out}/protogate"), text_of(f"{self.out}/protogate.begun")), ("built\n", self.stamp()))
         self.assertTrue(os.path.samefile(f"{self.out}/protogate.kit", f"{self.room}/kit/rt"))
         read = os.stat(f"{self.out}/protogate.begun").st_mtime_ns
         self.assertTrue(before - 20_000_000 <= read <= os.stat(f"{self.top}/crates/low/out/rlib/library").st_mtime_ns)
@@ -212,20 +238,22 @@ class Builds(Room):
 
     def test_two_builds_take_turns(self):
         """So they do where the script has been made anew meanwhile, as git makes what it changes."""
-        first = self.start("build.py", RT_SLEEP="3")
-        self.wait_for(self.begun)
+        first = self.start_held()
         shutil.copy2(f"{self.top}/tools/build.py", f"{self.top}/tools/new.py")
         os.replace(f"{self.top}/tools/new.py", f"{self.top}/tools/build.py")
-        status, said = self.run_to_end("build.py")
-        self.assertIn("another build runs here; waiting for it", said)
-        self.assertEqual((first.wait(timeout=PATIENCE), status, self.begun()), (0, 0, ["lib", "run"] * 2))
+        second = self.start("build.py")
+        self.assertIn("another build runs here; waiting for it", second.stdout.readline())
+        self.assertEqual(self.begun(), ["lib"])
+        self.let_go()
+        self.assertEqual([it.wait(timeout=PATIENCE) for it in (first, second)], [0, 0])
+        self.assertEqual(self.begun(), ["lib", "run"] * 2)
 
     def test_the_folders_that_a_kit_locks_are_free(self):
-        started = self.start("build.py", RT_SLEEP="3")
-        self.wait_for(self.begun)
+        started = self.start_held()
         folder = os.open(f"{self.top}/crates/protogate", os.O_RDONLY)
         fcntl.flock(folder, fcntl.LOCK_EX | fcntl.LOCK_NB)
         os.close(folder)
+        self.let_go()
         self.assertEqual(started.wait(timeout=PATIENCE), 0)
 
 
@@ -237,9 +265,14 @@ class Gates(Room):
 
     def test_proofs_and_edits_of_a_crate_are_apart(self):
         write(f"{self.top}/crates/low/must-fail/turned.edit", "file: src/lib.rt\nold: low\nnew: lower\n")
-        phases = prove.progress_of(self.top, prove.plan(self.top), ("tester",)).phases
+        phases = prove.progress_of(self.top, prove.plan(self.top), (testers.Tester("docs/tester.py", 1),)).phases
         names = [name for seconds, _ in phases.values() for name in seconds]
         self.assertEqual(sorted(names), ["edits of low", "low", "protogate", "tester"])
+
+    def test_each_tester_has_its_share_of_the_costs(self):
+        some = testers.Tester("one.py", 30), testers.Tester("two.py", 10)
+        with mock.patch("times.read", lambda: {times.TESTERS: {"programs": 80}}):
+            self.assertEqual(prove.progress_of(self.top, [], some).phases["testers"][0], {"one": 60, "two": 20})
 
     def test_it_says_each_minute_how_far_it_is(self):
         said = []
@@ -252,7 +285,7 @@ class Gates(Room):
         self.assertEqual((said[0], said[-1]), ("done: 0 of 2 crates; some 3 minutes left", "done: 1 of 2 crates; some 2 minutes left"))
 
     def test_what_is_left_goes_by_the_pace_of_the_machine(self):
-        """What was kept, and what is too little, tells nothing of it."""
+        """What was kept, and what is too little, tells nothing of it. What takes longer than expected is likely to go on for a while."""
         tasks = {"low": 100, "kept": 900, "little": 1, "rest": 600}
         progress = times.Progress({"crates": (tasks, dict.fromkeys(tasks, ()))}, 1, print)
         now = 10_000
@@ -266,6 +299,8 @@ class Gates(Room):
             progress.begun["other"] = now - 547
             progress.end("other")
             self.assertEqual((progress.pace(), progress.left()), (2, 1200))
+            progress.begun["rest"] = now - 2000
+            self.assertEqual(progress.left(), 400)
 
     def test_a_crate_that_was_kept_keeps_its_costs(self):
         before = {it: dict.fromkeys(times.KINDS, 7) for it in ("low", "protogate", "gone", times.TESTERS, times.OTHERS)}
@@ -292,24 +327,33 @@ while open(log).read().count('begun') < 2 and time.monotonic() < until:
     time.sleep(0.02)
 open(log, 'a').write('ended\\n')
 """
-# Runs the whole gate with these testers alone, and without what it says of documents and of messages that borrow.
-WHOLE = """import sys, prove
-prove.COMPARED, prove.TESTERS, prove.CHECKING, prove.ALONE = (), ("one.py", "two.py"), ("five.py", "six.py"), (("tools/three.py",), ("tools/four.py",))
+# Runs the whole gate with these testers alone, and without what it says of messages that borrow.
+WHOLE = """import sys, prove, testers
+from testers import ALONE, BESIDE, CHECKS, PROGRAM, Tester
+testers.COMPARED = (Tester("seven.py", 1),)
+testers.TESTERS = (Tester("one.py", 1), Tester("two.py", 1, (PROGRAM,)), Tester("five.py", 1, (CHECKS,)), Tester("six.py", 1, (CHECKS,)),
+                   Tester("three.py", 1, how=ALONE), Tester("four.py", 1, (PROGRAM,), how=ALONE))
 prove.try_lent = lambda room: True
-sys.exit(prove.prove_all([])[0])
+sys.exit(prove.main())
 """
 
 
 class WholeGates(Room):
     """The whole gate, over testers of the tests' own."""
 
-    def run_whole(self, **testers):
-        for name in ("one", "two", "three", "four", "five", "six"):
-            write(f"{self.top}/tools/{name}.py", f"#!/usr/bin/env python3\nimport sys\n{testers.get(name, '')}\n")
+    def run_whole(self, *words, tested=(), **made):
+        """Runs the gate, after these parts have passed."""
+        for name in ("one", "two", "three", "four", "five", "six", "seven"):
+            write(f"{self.top}/tools/{name}.py", f"#!/usr/bin/env python3\nimport sys\n{made.get(name, '')}\n")
             os.chmod(f"{self.top}/tools/{name}.py", 0o755)
-        env = {**self.env, "PYTHONPATH": f"{self.top}/tools"}
-        run = subprocess.run([sys.executable, "-Bc", WHOLE], cwd=self.top, env=env, capture_output=True, text=True, check=False)
+        env = {**self.env, "PYTHONPATH": f"{self.top}/tools:{self.top}/tools/gate"}
+        words = [*words, *([",".join([f"--tested={self.sum_of_files(env)}", *tested])] if tested else [])]
+        run = subprocess.run([sys.executable, "-Bc", WHOLE, *words], cwd=self.top, env=env, capture_output=True, text=True, check=False)
         return run.returncode, run.stdout.splitlines()
+
+    def sum_of_files(self, env):
+        words = [sys.executable, "-Bc", "import stamp; print(stamp.sum_of_files('.'))"]
+        return subprocess.run(words, cwd=self.top, env=env, stdout=subprocess.PIPE, text=True, check=True).stdout.strip()
 
     def test_what_all_testers_pass(self):
         begun = time.time_ns() - 20_000_000
@@ -328,6 +372,33 @@ class WholeGates(Room):
             status, said = self.run_whole(**{name: "sys.exit(1)"})
             self.assertEqual((status, said[-1]), (1, "9 passed, 1 failed"), said)
 
+    def test_what_the_tests_passed_is_counted_and_tried_again_on_the_program_alone(self):
+        self.assertEqual(self.run_whole(tested=("program", "one", "two", "seven"), **dict.fromkeys(("one", "seven"), "sys.exit(1)"))[1][-1],
+                         "13 passed, 0 failed")
+        self.assertEqual(self.run_whole(tested=("one", "two"), two="sys.exit(1)")[1][-1], "10 passed, 1 failed")
+        self.assertEqual(self.run_whole(tested=("one", "two"), seven="sys.exit(1)")[1][-1], "2 passed, 1 failed")
+
+    def test_what_was_changed_since_the_tests(self):
+        """Then all is tried again."""
+        words = f"--tested={'0' * 64},one,two"
+        status, said = self.run_whole(words, one="sys.exit(1)")
+        self.assertEqual((status, said[-1]), (1, "9 passed, 1 failed"), said)
+        self.assertTrue(any("a file was changed since the tests ran" in it for it in said), said)
+
+    def test_what_the_tests_cannot_have_passed(self):
+        """Each part that is handed over is one of the tests, once."""
+        for words in (["fish"], ["one", "one"], ["one", "five"], [""], ["one", ""]):
+            self.assertEqual(self.run_whole(tested=words), (2, []), words)
+        for words in (["--tested="], ["--tested=one"], ["--tested"], ["--tested=0,one", "--tested=0,two"]):
+            self.assertEqual(self.run_whole(*words)[0], 2, words)
+        self.assertEqual(self.begun(), [])
+
+    def test_the_program_is_handed_over(self):
+        _, said = self.run_whole(**dict.fromkeys(("one", "two", "four", "seven"), "print(sys.argv)"))
+        program = f"'{self.out}/protogate']"
+        wanted = ["['tools/seven.py', '--compare']", "['tools/one.py']", f"['tools/two.py', {program}", f"['tools/four.py', {program}"]
+        self.assertEqual([it for it in said if it.startswith("[")], wanted)
+
     def test_no_more_check_at_once_than_there_is_room_for(self):
         for jobs, patience, wanted in (("1", 1, ["begun", "ended"] * 2), ("2", PATIENCE, ["begun"] * 2 + ["ended"] * 2)):
             self.env["RT_JOBS"], noted = jobs, NOTED.format(patience=patience)
@@ -341,7 +412,7 @@ class WholeGates(Room):
         self.assertEqual((status, [it for it in self.begun() if it != "ci"]), (0, ["begun"] * 2 + ["ended"] * 2), said)
 
     def test_what_is_changed_meanwhile(self):
-        write(f"{self.room}/kit/rt", RT.replace("ci)\n", f"ci)\n        echo >>{self.top}/crates/low/src/lib.rt\n", 1))
+        write(f"{self.room}/kit/rt", RT.replace("ci)\n", f"ci)\n        echo >>'{self.top}/crates/low/src/lib.rt'\n", 1))
         status, said = self.run_whole()
         self.assertEqual((status, said[-1], os.listdir(self.out)), (1, "3 passed, 1 failed", []), said)
 
@@ -377,7 +448,7 @@ class PutBack(Room):
 
     def test_what_was_proved_of_these_sources(self):
         self.assertEqual(self.put_back(), (True, ""))
-        self.assertEqual((text_of(f"{self.out}/protogate"), text_of(f"{self.out}/protogate.begun")), ("proved\n", f"{LINE}\n"))
+        self.assertEqual((text_of(f"{self.out}/protogate"), text_of(f"{self.out}/protogate.begun")), ("proved\n", self.stamp()))
         self.assertEqual(os.stat(f"{self.out}/protogate.begun").st_mtime_ns, self.read.at)
         self.assertEqual(sorted(os.listdir(self.out)), ["protogate", "protogate.begun", "protogate.kit", "protogate.sum"])
 
@@ -406,7 +477,7 @@ class Missing(Room):
     """What is missing is told before anything begins."""
 
     def run_without(self, missing, *scripts):
-        """Runs these scripts with all tools on the path but one. Each has to say so within a second of a processor, with status 2, and begin nothing."""
+        """Runs these scripts with all tools on the path but one. Each has to say so within some seconds of a processor, with status 2, and begin nothing."""
         os.mkdir(f"{self.room}/bin")
         for it in {"rt", "git", "cc", "sh", "flock", "sleep", "mkdir"} - {missing}:
             os.symlink(shutil.which(it, path=self.env["PATH"]), f"{self.room}/bin/{it}")
@@ -414,7 +485,7 @@ class Missing(Room):
             before = resource.getrusage(resource.RUSAGE_CHILDREN)
             status, said = self.run_to_end(*words, PATH=f"{self.room}/bin")
             after = resource.getrusage(resource.RUSAGE_CHILDREN)
-            self.assertLess(after.ru_utime + after.ru_stime - before.ru_utime - before.ru_stime, 1)
+            self.assertLess(after.ru_utime + after.ru_stime - before.ru_utime - before.ru_stime, 20)
             self.assertEqual((status, self.begun()), (2, []), said)
             self.assertIn(f"there is no {missing} on the path", said)
 
@@ -427,17 +498,7 @@ class Missing(Room):
     def test_a_linker(self):
         self.run_without("cc", ["prove.py", "protogate"], ["prove.py"], ["build.py"])
 
-    def test_room_on_the_disk(self):
-        for folder, wanted in ((self.made, 1 << 60), (f"{self.made}/not/there", 1 << 60)):
-            (line,) = machine.missing({}, {folder: wanted})
-            self.assertRegex(line, r"has room for .* GB, and this takes some 1152921505 GB")
-        self.assertEqual(machine.missing({"sh": ""}, {self.made: 0}), [])
-
-    def test_a_place_to_write(self):
-        (line,) = machine.missing({}, {"/proc/none": 0})
-        self.assertEqual(line, "/proc/none can't be written")
-
 
 if __name__ == "__main__":
     child_programs.on_signals()
-    unittest.main()
+    run_tests.main()

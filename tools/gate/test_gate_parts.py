@@ -21,10 +21,12 @@ import held_edits  # noqa: E402
 import kit  # noqa: E402
 import machine  # noqa: E402
 import prove  # noqa: E402
+import run_tests  # noqa: E402
+import testers  # noqa: E402
 import times  # noqa: E402
 import word_tables  # noqa: E402
 from crates import crates_of  # noqa: E402
-from test_gate import TOP, Room, text_of, write  # noqa: E402
+from test_gate import PATIENCE, TOP, Room, text_of, write  # noqa: E402
 
 
 class Containers(unittest.TestCase):
@@ -114,6 +116,11 @@ class Times(unittest.TestCase):
         self.assertEqual([times.clock(seconds, below, it) for it in (1, 2, 4)], [40, 30, 30])
         self.assertEqual(times.chains(seconds, below), {"a": 30, "b": 20, "c": 5, "d": 5})
 
+    def test_no_more_than_memory_holds(self):
+        seconds, memory = {"a": 10, "b": 20, "c": 5}, {"a": 3, "b": 4}
+        below = dict.fromkeys(seconds, ())
+        self.assertEqual([times.clock(seconds, below, 3, memory, it) for it in (0, 6, 7)], [30, 30, 20])
+
     def test_what_is_written_is_read_again(self):
         table = {"low": dict(zip(times.KINDS, (5, 6, 7, 8))), times.TESTERS: dict(zip(times.KINDS, (0, 0, 0, 9)))}
         with tempfile.TemporaryDirectory() as room:
@@ -137,9 +144,50 @@ class Times(unittest.TestCase):
 
 class Testers(unittest.TestCase):
     def test_each_test_of_the_tools_is_run_once(self):
-        there = [os.path.relpath(it, f"{TOP}/tools") for it in glob.glob(f"{TOP}/tools/*/test_*.py")]
-        run = [*prove.TESTERS, *prove.CHECKING, *(words[0].partition("/")[2] for words in prove.ALONE)]
-        self.assertEqual(sorted(it for it in run if "/test_" in it), sorted(there))
+        there = [os.path.relpath(it, f"{TOP}/tools") for folder in ("*", "dist/hostile") for it in glob.glob(f"{TOP}/tools/{folder}/test_*.py")]
+        self.assertEqual(sorted(it.path for it in testers.TESTERS if "/test_" in it.path), sorted(there))
+
+    def test_each_test_tells_what_it_passes_over(self):
+        for it in testers.TESTERS:
+            if "/test_" in it.path:
+                text = text_of(f"{TOP}/tools/{it.path}")
+                self.assertNotIn("unittest.main(", text.rpartition("__main__")[2], it.path)
+                self.assertIn("run_tests", text.rpartition("__main__")[2], it.path)
+
+    def test_each_script_has_a_line_on_the_page(self):
+        listed, folder = [], ""
+        for line in text_of(f"{TOP}/tools/README.md").splitlines():
+            folder = line.split("`")[1] if line.startswith("| In `") else folder
+            listed += [folder + line.split("`")[1]] if line.startswith("| `") else []
+        ends, folders = ("py", "sh", "c"), ("", "*/", "dist/hostile/")
+        found = [os.path.relpath(it, f"{TOP}/tools") for end in ends for at in folders for it in glob.glob(f"{TOP}/tools/{at}*.{end}")]
+        self.assertEqual(sorted(it for it in listed if not it.endswith("/")), sorted(found))
+
+    def test_each_has_a_name_of_its_own(self):
+        every = (*testers.TESTERS, *testers.COMPARED)
+        self.assertEqual(len({testers.name_of(it) for it in every}), len(every))
+        for it in every:
+            self.assertTrue(os.access(f"{TOP}/tools/{it.path}", os.X_OK), it.path)
+
+
+class Missing(Room):
+    """What a run lacks of the machine."""
+
+    def test_room_on_the_disk(self):
+        for folder, wanted in ((self.made, 1 << 60), (f"{self.made}/not/there", 1 << 60)):
+            (line,) = machine.missing({}, {folder: wanted})
+            self.assertRegex(line, r"has room for .* GB, and this takes some 1152921505 GB")
+        self.assertEqual(machine.missing({"sh": ""}, {self.made: 0}), [])
+
+    def test_memory(self):
+        for asked, count in (("", 1), ("1", 0)):
+            with mock.patch("machine.free_memory", lambda: 3_000_000_000), mock.patch.dict(os.environ, RT_JOBS=asked):
+                self.assertEqual(len(machine.missing({}, {}, 5_000_000_000)), count)
+                self.assertEqual(machine.missing({}, {}, 3_000_000_000), [])
+
+    def test_a_place_to_write(self):
+        (line,) = machine.missing({}, {"/proc/none": 0})
+        self.assertEqual(line, "/proc/none can't be written")
 
 
 class Kept(Room):
@@ -271,6 +319,28 @@ mutual
         self.assertEqual(found, [("first", "a number in two lines", 6), ("Second", "", 9), ("Third", "inside a block", 14)])
 
 
+class Workers(Room):
+    """A function that is called by processes side by side."""
+
+    CALLS = """import os, signal, sys, workers
+def one(number, other):
+    if number == 3:
+        os.kill(os.getpid(), signal.SIGKILL)
+    return number + other
+print(workers.called(one, [(1, 2), (4, 5)], 2), flush=True)
+workers.called(one, [(it, it) for it in range(9)], 2)
+"""
+
+    def test_one_that_is_killed_ends_the_script(self):
+        run = subprocess.run([sys.executable, "-Bc", self.CALLS], cwd=f"{TOP}/tools/fuzz", capture_output=True, text=True, timeout=PATIENCE, check=False)
+        self.assertEqual((run.returncode, run.stdout), (1, "[3, 9]\n"))
+        self.assertIn("was killed before it was done", run.stderr)
+
+    def test_no_script_waits_for_one_without_end(self):
+        for path in glob.glob(f"{TOP}/tools/*/*.py"):
+            self.assertNotRegex(text_of(path), r"multiprocessing\.Pool|\)\.Pool\(", path)
+
+
 class PassedOver(Room):
     def test_what_is_passed_over_is_told(self):
         tests = "import sys, unittest\nsys.path.insert(0, sys.argv.pop(1))\nimport run_tests\n\n\nclass Some(unittest.TestCase):\n"
@@ -281,4 +351,4 @@ class PassedOver(Room):
 
 
 if __name__ == "__main__":
-    unittest.main()
+    run_tests.main()

@@ -20,6 +20,7 @@ from unittest import mock
 
 sys.dont_write_bytecode = True
 import child_programs  # noqa: E402
+import run_tests  # noqa: E402
 from read_goals import faults, verdict, verdicts  # noqa: E402
 from edited_crate import ANSWERS, DOUBLED, DOUBLES, EDITS, FALLS, HALVING, MEASURE, SOURCE, write  # noqa: E402
 from try_edits import plan, said_before, table_of, try_all, try_one  # noqa: E402
@@ -315,4 +316,4 @@ class Tries(unittest.TestCase):
 
 if __name__ == "__main__":
     child_programs.on_signals()
-    unittest.main()
+    run_tests.main()

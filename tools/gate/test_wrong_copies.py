@@ -10,6 +10,7 @@ import tempfile
 import unittest
 
 sys.dont_write_bytecode = True
+import run_tests  # noqa: E402
 from read_goals import faults, of_edits  # noqa: E402
 from stubs import holes, make_stubs, stubs_of  # noqa: E402
 from edited_crate import ANOTHER, HALVING, SOURCE, write  # noqa: E402
@@ -239,4 +240,4 @@ class Stubs(unittest.TestCase):
 
 
 if __name__ == "__main__":
-    unittest.main()
+    run_tests.main()

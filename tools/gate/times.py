@@ -1,5 +1,6 @@
 """How long proofs are likely to take: the measured seconds of each crate (costs.txt), and a model of checks that run side by side."""
 
+import math
 import os
 import threading
 import time
@@ -46,17 +47,24 @@ def chains(seconds, below):
     return {it: chain(it) for it in seconds}
 
 
-def clock(seconds, below, lanes):
-    """Returns how long these tasks take where so many run side by side: each once those that it waits for have ended, the longest chain first."""
-    longest, now, running, left = chains(seconds, below), 0, {}, {*seconds}
+def clock(seconds, below, lanes, memory=None, most=math.inf):
+    """Returns how long these tasks take where so many run side by side, and as many of those with memory as fit into the most that there is: each once
+    those that it waits for have ended, the longest chain first."""
+    longest, now, running, left, memory = chains(seconds, below), 0, {}, {*seconds}, memory or {}
     while left or running:
         for name in sorted(left, key=lambda it: (-longest[it], it)):
-            if len(running) < lanes and not any(it in left or it in running for it in below[name]):
+            is_ready = not any(it in left or it in running for it in below[name])
+            if is_ready and len(running) < lanes and has_memory(memory.get(name, 0), [memory.get(it, 0) for it in running], most):
                 running[name] = now + seconds[name]
         left -= {*running}
         now = min(running.values())
         running = {it: end for it, end in running.items() if end > now}
     return now
+
+
+def has_memory(wanted, taken, most):
+    """Returns whether there is memory for what wants some beside what took some. What is alone gets what there is."""
+    return not wanted or not sum(taken) or sum(taken) + wanted <= most
 
 
 def in_words(seconds):
@@ -67,13 +75,15 @@ def in_words(seconds):
 
 
 class Progress:
-    """What is done and what is left, in phases one after the other: each has tasks with their seconds, and what each waits for."""
+    """What is done and what is left, in phases one after the other: each has tasks with their seconds, and what each waits for. `memory` is what tasks
+    take of it, and the most that there is."""
 
     # Tasks tell the pace of a machine once they have so many seconds together. One that took less than this part of its seconds was kept from earlier runs.
-    ENOUGH, KEPT = 120, 0.2
+    # One that runs is likely to take this part of what it took already, at least.
+    ENOUGH, KEPT, MORE = 120, 0.2, 0.2
 
-    def __init__(self, phases, lanes, say, pause=60):
-        self.phases, self.lanes, self.say, self.pause = phases, lanes, say, pause
+    def __init__(self, phases, lanes, say, pause=60, memory=()):
+        self.phases, self.lanes, self.say, self.pause, self.memory = phases, lanes, say, pause, memory
         self.begun, self.done, self.took, self.is_over = {}, set(), {}, threading.Event()
 
     def begin(self, name):
@@ -96,8 +106,9 @@ class Progress:
         whole, pace = 0, self.pace()
         for seconds, below in self.phases.values():
             now = time.monotonic()
-            rest = {it: max(1, pace * much - (now - self.begun.get(it, now))) for it, much in seconds.items() if it not in self.done}
-            whole += clock(rest, {it: [at for at in below[it] if at in rest] for it in rest}, self.lanes)
+            ran = {it: now - self.begun.get(it, now) for it in seconds if it not in self.done}
+            rest = {it: max(1, pace * seconds[it] - much, self.MORE * much) for it, much in ran.items()}
+            whole += clock(rest, {it: [at for at in below[it] if at in rest] for it in rest}, self.lanes, *self.memory)
         return whole
 
     def told(self):

@@ -103,7 +103,7 @@ def faults_of_build(top, env):
     if subprocess.run([f"{out}/protogate"], stdin=subprocess.DEVNULL, check=False).returncode != 4:
         found.append("the program that was built is another")
     with open(f"{out}/protogate.begun", encoding="utf-8") as file:
-        line = file.read()
+        line = file.readline()
     if line != subprocess.run(["rt", "version"], env=env, stdout=subprocess.PIPE, text=True, check=True).stdout:
         found.append(f"the stamp names another kit: {line}")
     if not os.path.samefile(f"{out}/protogate.kit", f"{TOP}/tools/gate/other_kit/rt"):

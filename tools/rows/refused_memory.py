@@ -10,7 +10,7 @@ import time
 
 ROOT = os.path.dirname(os.path.dirname(os.path.dirname(os.path.abspath(__file__))))
 # How many seconds a run may take.
-LIMIT = 20
+LIMIT = 120
 # What the library says on standard error when it refuses.
 REFUSED = b"growth refused\n"
 # So many requests are refused at most by one script, each in a run of its own of some two milliseconds: so both scripts take less than five

@@ -20,7 +20,6 @@ minutes of a processor allow (refused_memory.py). Wants cc, for the library that
 """
 import argparse
 import collections
-import multiprocessing
 import os
 import re
 import subprocess
@@ -29,7 +28,9 @@ import tempfile
 import time
 
 sys.dont_write_bytecode = True
+sys.path.append(f"{os.path.dirname(os.path.realpath(__file__))}/../fuzz")
 from refused_memory import ROOT, ask_for_stack, build_library, line_of, runs_of, sums_of  # noqa: E402
+from workers import called  # noqa: E402
 
 CRATES = os.path.join(ROOT, "crates")
 # What a test prints last that passes.
@@ -67,6 +68,8 @@ TWO = "M: uint32 a=1; N: N next=1, M m=2 | M: int32 a=1; N: N next=1, M m=2"
 # A field of each kind of change, in a type that another has; a type that is removed, and one that is added.
 REPOSITORY = ("T: uint32 a=1, repeated string b=2, int32 c=3, int32 d=4, map<uint32,string> e=5; U: T t=1; V: int32 x=1 |"
               " T: int32 a=1, string b=2, string c=3, bool d=4, map<int32,string> e=5; U: T t=1; W: int32 x=1")
+# Ten fields that come into one oneof.
+JOINED = " | ".join("M: " + ", ".join(f"{of}int32 f{it}={it}" for it in range(1, 11)) for of in ("", "k0 "))
 # A message of texts, lists and a child that no change touches.
 KEPT = "M0: repeated string f1=1, string f2=2, M0 f3=3 | M0: repeated bytes f1=1, M0 f3=3 | 0 0 | 0 | 0a01611201621a03120163"
 # The message types that are written of descriptor.proto, in its order.
@@ -127,7 +130,9 @@ CALLS = [
     Line("Prices::base", "rows_answer", f"Prices::base | {TWO} | 0 0", "6 1", ["0"]),
     Rows("carry", "rows_answer", ["message of an entry round a child that breaks"]),
     # A number that a signed reader takes for one below 0: a tag, and the five bytes of 2^31.
-    Line("causes", "rows_answer", f"causes | {TWO} | 0 0", "1 2 0 6"),
+    Line("told_causes", "rows_answer", f"causes | {TWO} | 0 0", "1 2 0 6"),
+    # The first two of them, a tag and a number each, stand for all ten.
+    Line("told_causes", "rows_answer", f"causes | {JOINED} | 0 0", "1 6 2 4 of 1 2 3 4 5 6 7 8 9 10"),
     Line("carry_cause", "rows_answer", f"carry_cause | {TWO} | 0 0", "088080808008"),
     Rows("breaks", "rows_answer", ["lists, texts and a child are kept"]),
     Line("breaks_as_written", "rows_answer", f"breaks_as_written | {KEPT}", "kept"),
@@ -156,11 +161,16 @@ CALLS = [
          "Value 088080808008, ListToOne 1200, Unlike 1801, Value 2002, MapKey 2a080880808080081200, breaks T 2, breaks U 4, removed V, added W"),
     Line("gate_all", "rows_view", "gate_all E: A=0, B=1; M: E e=1, map<int32,E> m=2 | E: A=0, C=1; M: E e=1, map<int32,E> m=2",
          "Name 0801, MapValue 120408001001, breaks M 2"),
+    Line("gate_all", "rows_view", f"gate_all {JOINED}", "Oneof 08011001, breaks M 4"),
     Rows("relay", "rows_view", ["what the new type lacks is handed on"], "relay"),
+    Tests("notes", "tests_notes", ["tells_again"]),
     Tests("gate_files", "tests_gate", ["a_gate_over_files_answers_one_of_two", "a_gate_over_files_tells_the_old_side_first"]),
     # The sink is left alone where `run` lacks memory, also where `matches_of` does, which it calls first.
     Tests("run matches_of", "tests_gate", ["compiles_again", "shows_again", "verifies_again", "gates_in_both_directions_again",
-                                           "gates_a_oneof_again", "gates_all_types_again"]),
+                                           "gates_a_oneof_again", "gates_all_types_again", "compiles_in_folders_again",
+                                           "names_types_of_a_set_in_folders_again", "names_types_of_a_list_again", "gates_all_types_of_lists_again",
+                                           "refuses_a_list_again", "refuses_a_list_without_files_again",
+                                           "refuses_a_side_without_files_again"]),
 ]
 
 
@@ -297,10 +307,7 @@ def main():
     ask_for_stack()
     with tempfile.TemporaryDirectory(prefix="protogate-memory-") as room:
         library = build_library(room)
-        with multiprocessing.get_context("fork").Pool(options.jobs) as pool:
-            found = pool.starmap(try_one, [(*it, library) for it in tries], 1)
-            pool.close()
-            pool.join()
+        found = called(try_one, [(*it, library) for it in tries], options.jobs)
     return 0 if print_sums(tries, found, begun) and not missing else 1
 
 

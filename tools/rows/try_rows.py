@@ -12,7 +12,6 @@ built by cc, without which these runs are passed over): it takes one byte at a t
 a beginning of the output, and the status 3. The last line has the counts; the status is 1 where a run failed.
 """
 import collections
-import multiprocessing
 import os
 import re
 import shutil
@@ -26,12 +25,15 @@ sys.path.append(f"{os.path.dirname(os.path.realpath(__file__))}/../fuzz")
 from fuzz_seeds import bytes_of, lines_of  # noqa: E402
 from long_rows import printed  # noqa: E402
 from refused_memory import ROOT, ask_for_stack, options_of  # noqa: E402
+from workers import called  # noqa: E402
 
 # How many seconds a run may take.
 LIMIT = 60
 # A repeat of a row, as crates/kit_rows/src/repeats.rt spells it.
 REPEAT = re.compile(r"<<(\d+) (\d+) (.*?)>>", re.S)
 NEW = "new-side"
+# The other options whose paths lie there.
+BELOW = ("--new-include", "--new-files-from")
 # So many runs that failed are printed.
 MOST_PRINTED = 20
 
@@ -67,8 +69,9 @@ def all_rows():
 
 
 def words_from_outside(row):
-    """Returns the words with the folder of the new side in them. A command line that is bad stays as it is."""
-    if row.status == 4 or row.words[:1] not in (["gate"], ["gate-all"], ["verify"]):
+    """Returns the words with the folders and the list of the new side in them. A command line that is bad stays as it is."""
+    is_bad = row.status == 4 and not row.text.startswith("refused")
+    if is_bad or row.words[:1] not in (["gate"], ["gate-all"], ["verify"]):
         return row.words
     words, is_named = list(row.words), False
     for at, word in enumerate(words):
@@ -76,6 +79,12 @@ def words_from_outside(row):
             words[at], is_named = f"--new-dir={NEW}/" + word.partition("=")[2], True
         elif word == "--new-dir":
             words[at + 1], is_named = f"{NEW}/{words[at + 1]}", True
+        elif word.startswith(BELOW):
+            option, is_there, path = word.partition("=")
+            if is_there:
+                words[at] = f"{option}={NEW}/{path}"
+            else:
+                words[at + 1] = f"{NEW}/{words[at + 1]}"
     return words if is_named else [words[0], f"--new-dir={NEW}", *words[1:]]
 
 
@@ -104,7 +113,8 @@ def try_row(program, row):
         put(folder, row.old)
         put(os.path.join(folder, NEW), row.new)
         status, said = run(program, words_from_outside(row), folder)
-    said = printed(said)
+    # (a list is named with its folder)
+    said = printed(said.replace(f"{NEW}/".encode(), b""))
     if row.parts:
         said = " ; ".join(it for it in row.parts if it in said)
     return fault_of(row.what, (row.status, row.text), (status, said))
@@ -147,8 +157,7 @@ def main():
     options, begun = options_of(__doc__), time.time()
     ask_for_stack()
     rows = all_rows()
-    with multiprocessing.get_context("fork").Pool(options.jobs) as pool:
-        found = pool.starmap(try_row, [(options.program, row) for row in rows], 16)
+    found = called(try_row, [(options.program, row) for row in rows], options.jobs, 16)
     files, outputs = list(try_failing_files(options.program)), list(try_slow_outputs(options.program))
     faults = [it for it in (*found, *files, *outputs) if it]
     print("\n".join(faults[:MOST_PRINTED]), end="\n" * bool(faults))
