@@ -13,6 +13,7 @@ from google.protobuf import descriptor_pb2
 from google.protobuf.internal import api_implementation
 
 sys.dont_write_bytecode = True
+import any_order  # noqa: E402
 import list_rows  # noqa: E402
 from row_types import LABEL, add_entry, adding, kind_of, record, spelled, varint  # noqa: E402
 
@@ -310,6 +311,19 @@ def again(kind, data, looks=True):
     return message.SerializeToString(deterministic=True)
 
 
+def look_at_own_order(kind, count):
+    """Sees to it that what the runtime writes by itself, which is in another order each time, has the records of the bytes by rising keys."""
+    r = random.Random(37)
+    written = []
+    for _ in range(count):
+        message = kind()
+        message.ParseFromString(any_order.maps(r))
+        look(message)
+        written.append(message.SerializeToString(deterministic=False))
+    assert any(data != again(kind, data) for data in written)
+    assert all(any_order.sorted_records(data) == any_order.sorted_records(again(kind, data)) for data in written)
+
+
 def made_rows(kind, records, count, seed, longest=60):
     """Byte strings at random."""
     r = random.Random(seed)
@@ -362,6 +376,18 @@ class Lines:
             theirs = again(kind, data, looks=False)
             assert theirs != ours, data
             self.add(" takes it otherwise: " + why, "apart %s %s" % (spelled(theirs), spelled(data)), spelled(ours))
+
+    def add_any_order(self, kind, rows):
+        """Of messages that the runtime writes, their records in another order, which the runtime reads as the same messages."""
+        r = random.Random(31)
+        written = [it for it in (again(kind, data) for data in rows) if it]
+        mixed = [(data, any_order.shuffled(r, data)) for data in written]
+        others = [(data, other) for data, other in mixed if other != data]
+        assert len(others) >= 20 and all(again(kind, other) == data for data, other in others)
+        # entries of a map change places, and records of a message inside it
+        assert any([*any_order.entries_of(data)] != [*any_order.entries_of(other)] for data, other in others)
+        assert any(any_order.inside_of(data) != any_order.inside_of(other) for data, other in others)
+        self.add_rows("W: messages whose records are in another order", kind, [other for _, other in others])
 
     def add_many(self):
         """Ten thousand entries by falling keys that are read, and that are set; and ten thousand fields that are set by falling numbers."""
@@ -528,6 +554,9 @@ def main():
     lines.add_type("W", text)
     lines.add_rows("W at random", kind, made_rows(kind, wide_records, 60, 19))
     lines.add_groups(kind, ODD_WIDE)
+    mapped = [any_order.maps(random.Random(seed)) for seed in range(12)]
+    lines.add_any_order(kind, made_rows(kind, wide_records, 60, 29, longest=90) + mapped)
+    look_at_own_order(kind, 40)
     kind, text = far_schema()
     lines.add_type("F", text)
     lines.add_rows("members that stand far apart", kind, made_rows(kind, far_records, 4, 20, longest=200))

@@ -16,3 +16,7 @@ pub mod SingleChild
 pub mod Growth
 pub mod Embedded
 pub mod ChildPairs
+pub mod RewrittenKept
+pub mod WholeMaps
+pub mod SeenAgain
+pub mod Sights

@@ -1,5 +1,5 @@
 -- Laws of the bytes of a message, in whatever order of its fields and entries.
-use Rattle.std.specs.Prelude.{◌≡◌, ℕ, ◌≤◌, List, length, true, Some}
+use Rattle.std.specs.Prelude.{◌≡◌, ℕ, ◌≤◌, List, length, Some}
 use Rattle.pg_schema.specs.declared.parts.field.TypeId.{TypeId}
 use Rattle.pg_schema.specs.Shape.{Shape}
 use Rattle.pg_schema.specs.ShapeRules.{IsShape}
@@ -27,17 +27,17 @@ ReadsAnyOrder =
     (shape : Shape) (type : TypeId) (m : Message) (bytes : List ℕ) → IsShape shape → IsMessage shape type m → length (enc shape type m) ≤ cap →
     MayWrite shape type m bytes → dec shape type bytes ≡ Some m
 
--- Not proved yet, so that no contract names these two.
-
--- A compatible new type sees them.
+-- A compatible new type reads them whole.
 abbrev pub CompatibleInAnyOrder : Type 0
 CompatibleInAnyOrder =
-    (view : View) (old new : Shape) (a b : TypeId) (v : Message) (bytes : List ℕ) → IsShape old → IsShape new → Compatible view old new a b →
-    IsMessage old a v → IsPlain v → length (enc old a v) ≤ cap → MayWrite old a v bytes → IsSeen view old new a b v bytes
+    (view : View) (old new : Shape) (a b : TypeId) (v : Message) (bytes : List ℕ) → IsShape old → IsShape new →
+    Compatible view old new a b → IsMessage old a v → IsPlain v → length (enc old a v) ≤ cap →
+    (written : MayWrite old a v bytes) → IsSeen view old new a b v bytes written
 
--- Where no message with so few bytes breaks, bytes that the new type doesn't see are longer.
+-- Where each message that breaks has n bytes or more, so have all bytes that the new type doesn't read whole.
 abbrev pub NoneUnseenIsShorter : Type 0
 NoneUnseenIsShorter =
     (view : View) (old new : Shape) (a b : TypeId) (n : ℕ) (v : Message) (bytes : List ℕ) → IsShape old → IsShape new →
     ((x : Message) → Breaks view old new a b x → n ≤ length (enc old a x)) →
-    IsMessage old a v → IsPlain v → length (enc old a v) ≤ cap → MayWrite old a v bytes → (IsSeen view old new a b v bytes → ⊥) → n ≤ length bytes
+    IsMessage old a v → IsPlain v → length (enc old a v) ≤ cap → (written : MayWrite old a v bytes) →
+    (IsSeen view old new a b v bytes written → ⊥) → n ≤ length bytes

@@ -1,6 +1,6 @@
 -- The bytes that a writer may write of a message (Encoding guide, "Message Structure", "Maps": neither the order of fields nor
 -- that of a map's entries is promised). Each record is as the encoding has it, and the elements of a list stay in order.
-use Rattle.std.specs.Prelude.{◌≡◌, ℕ, List, [], ◌∷◌, ◌++◌, filter, Bool, false, Option, Some, None, IsPermutation}
+use Rattle.std.specs.Prelude.{◌≡◌, ℕ, List, [], ◌∷◌, ◌++◌, filter, nat_eq, Bool, false, Option, Some, None, IsPermutation}
 use Rattle.pg_schema.specs.declared.parts.field.TypeId.{TypeId}
 use Rattle.pg_schema.specs.Shape.{Shape, FieldShape, fields, field_at, is_map}
 use Rattle.pg_wire.specs.Records.{WireRecord}
@@ -8,7 +8,6 @@ use Rattle.pg_dyn.specs.message.Message.{Leaf, Bytes, Message, ends, holds, nest
 use Rattle.pg_dyn.specs.reading.Content.{is_unknown}
 use Rattle.pg_dyn.specs.encoding.Writing.{records_in, bytes_of}
 use Rattle.pg_dyn.specs.encoding.Encoding.{child_type}
-use Rattle.pg_dyn.specs.laws.Laws.{of_number}
 
 -- whether the field of that number is a map
 abbrev pub is_map_at : List FieldShape → ℕ → Bool
@@ -18,10 +17,14 @@ is_map_at fs number = of (field_at fs number)
     of (Some f) = is_map f.presence
     of None = false
 
+-- whether the record has that number
+abbrev pub has_number : ℕ → WireRecord → Bool
+has_number number r = nat_eq r.number number
+
 -- The same records in another order: those of one number, if it isn't a map's, and the unknown ones follow one another as before.
 pub record IsReordered (fs : List FieldShape) (old new : List WireRecord) : Type 0 where
   pub same : IsPermutation old new
-  pub in_order : (number : ℕ) → is_map_at fs number ≡ false → filter (of_number number) new ≡ filter (of_number number) old
+  pub in_order : (number : ℕ) → is_map_at fs number ≡ false → filter (has_number number) new ≡ filter (has_number number) old
   pub unknown : filter (is_unknown fs) new ≡ filter (is_unknown fs) old
 
 -- The bytes are the records of such parts, and the unknown ones, in some order.

@@ -1,30 +1,23 @@
 -- Where each shared field's content is kept, and no two meet in one oneof, the records are read as a message that shows it, whatever
 -- the comparands are.
-use Rattle.std.proofs.Common.{◌≡◌, ℕ, ◌^◌, ◌<◌, List, [], ◌∷◌, length, map, filter, Bool, true, false, not, ◌&&◌, ◌||◌, Option, Some, None, option_and_then, unwrap_or, ⊎_elim, refl, ap, sym, ◌∙◌, subst, rules}
+use Rattle.std.proofs.Common.{◌≡◌, ℕ, List, [], ◌∷◌, map, filter, Bool, true, false, not, ◌&&◌, ◌||◌, Option, Some, None, option_and_then, unwrap_or, ⊎_elim, refl, ap, sym, ◌∙◌, subst, rules}
 use Rattle.std.specs.List.{AllByRecursion, list_all, list_any}
-use Rattle.std.proofs.lemmas.Bool.{and_parts, and_from, and_right, cases_Bool, false_from_ne_true}
-use Rattle.pg_schema.specs.declared.parts.field.TypeId.{TypeId}
-use Rattle.pg_schema.specs.Shape.{Shape, FieldShape, fields, field_at}
-use Rattle.pg_schema.specs.ShapeRules.{IsShape, Rising}
+use Rattle.std.proofs.lemmas.Bool.{and_parts, and_right, cases_Bool, false_from_ne_true}
+use Rattle.pg_schema.specs.Shape.{FieldShape, field_at}
+use Rattle.pg_schema.specs.ShapeRules.{Rising}
 use Rattle.pg_wire.specs.Records.{WireRecord}
 use Rattle.pg_dyn.specs.reading.Optional.{all_some, joined}
-use Rattle.pg_dyn.specs.message.Message.{Message, ends, holds, nests, Item, Part, is_of, parts, message_from, IsPlain}
+use Rattle.pg_dyn.specs.message.Message.{Message, Item, Part, is_of, parts, message_from}
 use Rattle.pg_dyn.specs.reading.Content.{takes, is_unknown, is_sibling, counted, content}
 use Rattle.pg_dyn.specs.encoding.Writing.{field_records, records_in}
-use Rattle.pg_dyn.specs.encoding.Encoding.{encoded_parts, enc}
-use Rattle.pg_dyn.specs.reading.Decoding.{Reader, is_readable, all_readable, read_part, field_parts, read_records, dec}
-use Rattle.pg_dyn.specs.fitting.Belonging.{IsMessage}
-use Rattle.pg_dyn.specs.views.Comparison.{View, Expected, Comparand, writes, expects, comparands, shown, same_content}
-use Rattle.pg_dyn.specs.views.Breaking.{is_kept}
+use Rattle.pg_dyn.specs.reading.Decoding.{Reader, is_readable, all_readable, read_part, field_parts, read_records}
+use Rattle.pg_dyn.specs.views.Comparison.{View, Comparand, writes, expects, same_content}
 use Rattle.pg_dyn.specs.laws.Laws.{of_number}
-use Rattle.pg_dyn.specs.laws.ByComparands.{comparands_at, field_read, is_shown, is_field_kept, EachFieldKept, NoComparandsMeet}
-use Rattle.pg_dyn.proofs.Lists.{all_some-map, each_weaker, each_of_all, each_swap, each_at, filter-map, filtered_out, list_all_each, list_all_true, list_any_none, after_last_of_none, filter-after_last_of_none, filter-filter_weaker, each_unfiltered, each_filtered}
+use Rattle.pg_dyn.specs.laws.ByComparands.{comparands_at, field_read, is_shown, EachFieldKept, NoComparandsMeet}
+use Rattle.pg_dyn.proofs.Lists.{all_some-map, each_weaker, each_of_all, each_swap, filter-map, filtered_out, list_all_each, list_all_true, list_any_none, after_last_of_none, filter-after_last_of_none, filter-filter_weaker, each_unfiltered}
 use Rattle.pg_dyn.proofs.lemmas.reading.records.Splitting.{each_found, field_records_none, found_number, records_of_number, records_of_no_number, takes_number}
-use Rattle.pg_dyn.proofs.lemmas.fitting.Belonging.{fields-IsType}
 use Rattle.pg_dyn.proofs.lemmas.reading.records.ReadSplits.{reading_of, field_split}
 use Rattle.pg_dyn.proofs.lemmas.reading.records.RecordsRead.{content_none}
-use Rattle.pg_dyn.proofs.lemmas.reading.Depth.{dec_is}
-use Rattle.pg_dyn.proofs.lemmas.views.ByField.{records_are, kept_from, kept_gives}
 use Rattle.pg_dyn.proofs.lemmas.views.ByComparands.{same_content-filter}
 
 is_shown_some : (view : View) (f g : FieldShape) (cs : List Comparand) (o : Option (List (Part Item))) → is_shown view f g cs o ≡ true → (ps : List (Part Item)) × (o ≡ Some ps) × (same_content view f g (map expects cs) ps ≡ true)
@@ -59,7 +52,7 @@ module _ (view : View) (child : Reader) (fs gs : List FieldShape) (cs : List Com
 
   -- The records that count for a new field.
 
-  taken_numbered : (g : FieldShape) → filter (takes g) rs ≡ filter (takes g) (filter (of_number g.number) rs)
+  pub taken_numbered : (g : FieldShape) → filter (takes g) rs ≡ filter (takes g) (filter (of_number g.number) rs)
   taken_numbered g = sym (filter-filter_weaker (of_number g.number) (takes g) (takes_number g) rs)
 
   pub nothing_taken : (g : FieldShape) → comparands_at g.number cs ≡ [] → AllByRecursion (λ r. takes g r ≡ false) rs

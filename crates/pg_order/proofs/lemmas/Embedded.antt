@@ -1,22 +1,21 @@
 -- Where all messages of a type that are no longer than one are kept, so are all children of a field that are no longer than its child.
-use Rattle.std.proofs.Common.{◌≡◌, ℕ, ◌^◌, ◌<◌, ◌≤◌, List, [], ◌∷◌, ◌++◌, filter, length, Bool, true, false, cond, nat_eq, Option, Some, None, refl, ap, ap₂, sym, subst, ◌∙◌, arith, eq-eqb, length-append, rules}
+use Rattle.std.proofs.Common.{◌≡◌, ℕ, ◌^◌, ◌<◌, ◌≤◌, [], ◌∷◌, filter, length, true, cond, Option, Some, ap, sym, subst, ◌∙◌, arith, eq-eqb, length-append}
 use Rattle.pg_schema.specs.declared.parts.field.TypeId.{TypeId}
 use Rattle.pg_schema.specs.declared.parts.field.Scalar.{Scalar}
 use Rattle.pg_schema.specs.declared.parts.field.Element.{Element}
 use Rattle.pg_schema.specs.declared.parts.field.Element.TheVariants as elements
-use Rattle.pg_schema.specs.declared.parts.field.Presence.{Presence}
 use Rattle.pg_schema.specs.declared.parts.field.Presence.TheVariants as presences
 use Rattle.pg_schema.specs.Shape.{Shape, FieldShape, fields, field_at}
 use Rattle.pg_schema.specs.ShapeRules.{IsField, IsShape, PresenceFits}
 use Rattle.pg_wire.specs.Records.{written}
-use Rattle.pg_dyn.specs.message.Message.{Leaf, Bytes, Message, ends, holds, nests, IsPlain, is_of, unknown_of}
+use Rattle.pg_dyn.specs.message.Message.{Leaf, Bytes, Message, ends, nests, IsPlain, is_of, unknown_of}
 use Rattle.pg_dyn.specs.encoding.Writing.{bytes_of, entry_bytes, field_records, records_in}
 use Rattle.pg_dyn.specs.encoding.Encoding.{cap, child_type, encoded_parts, enc}
 use Rattle.pg_dyn.specs.reading.Decoding.{dec}
-use Rattle.pg_dyn.specs.fitting.Belonging.{IsMessage, KeyFits}
+use Rattle.pg_dyn.specs.fitting.Belonging.{IsMessage}
 use Rattle.pg_dyn.specs.laws.ByComparands.{EachFieldKept, comparands_at, is_field_kept}
 use Rattle.pg_dyn.specs.laws.OwnParts.{ShortBodies}
-use Rattle.pg_dyn.specs.views.Comparison.{View, Comparand, comparands, expected, expects, same, same_message, unshared_bytes}
+use Rattle.pg_dyn.specs.views.Comparison.{View, comparands, expected, same, same_message, unshared_bytes}
 use Rattle.pg_dyn.specs.views.Breaking.{is_kept}
 use Rattle.pg_dyn.proofs.Lists.{each_at}
 use Rattle.pg_dyn.proofs.lemmas.fitting.Belonging.{child_type_is, fields-IsType, is_flat}

@@ -1,13 +1,11 @@
 -- The worked examples.
-use Rattle.std.proofs.Common.{◌≡◌, ℕ, pos, List, [], ◌∷◌, ◌++◌, filter, Bool, true, false, cond, nat_eq, Some, None, refl, ap, sym, subst, ◌∙◌, arith, lit≤, rules}
-use Rattle.std.specs.Prelude.{IsPermutation}
+use Rattle.std.proofs.Common.{◌≡◌, ℕ, pos, List, [], ◌∷◌, ◌++◌, filter, Bool, true, false, cond, nat_eq, Some, None, refl, ap, sym, subst, ◌∙◌, arith}
 use Rattle.std.specs.List.{AllByRecursion}
 use Rattle.std.proofs.lemmas.Bool.{eqb-true}
 use Rattle.std.specs.Str.{is_utf8, chars}
 use Rattle.pg_schema.specs.declared.parts.field.Element.TheVariants as elements
 use Rattle.pg_schema.specs.declared.parts.field.Scalar.TheVariants.{Int32}
-use Rattle.pg_schema.specs.declared.parts.field.Presence.TheVariants.{Implicit, Explicit, Repeated, Map}
-use Rattle.pg_schema.specs.Shape.{FieldShape}
+use Rattle.pg_schema.specs.declared.parts.field.Presence.TheVariants.{Explicit, Repeated, Map}
 use Rattle.pg_wire.specs.Reading.{exactly, row}
 use Rattle.pg_wire.specs.Varint.{varint_at, varint}
 use Rattle.pg_wire.specs.Words.{signed, unzigzag}
@@ -16,14 +14,15 @@ use Rattle.pg_wire.specs.Records.{WireRecord, tag_parts, record_at, records_of, 
 use Rattle.pg_dyn.specs.message.Message.{Bytes, Int, Leaf, Part}
 use Rattle.pg_dyn.specs.word.Coding.{word_bytes, word_in}
 use Rattle.pg_dyn.specs.encoding.Writing.{bytes_of, entry_bytes, item_record, records_in}
+use Rattle.pg_dyn.specs.reading.Content.{is_unknown}
 use Rattle.pg_dyn.specs.reading.Decoding.{dec}
-use Rattle.pg_dyn.specs.laws.Examples.{first, second, scalar, field, of_fields, two}
+use Rattle.pg_dyn.specs.laws.Examples.{first, scalar, field}
 use Rattle.pg_dyn.specs.laws.Laws.{of_number}
-use Rattle.pg_dyn.proofs.Lists.{filter_all}
+use Rattle.pg_dyn.proofs.Lists.{each_of_all, filter_all}
 use Rattle.pg_dyn.proofs.lemmas.message.KeyLaws.{each_moved}
 use Rattle.pg_order.specs.Examples as examples
-use Rattle.pg_order.specs.Examples.{WorkedOrders}
-use Rattle.pg_order.specs.MayWrite.{IsReordered, MayWrite, is_map_at}
+use Rattle.pg_order.specs.Examples.{WorkedOrders, rest}
+use Rattle.pg_order.specs.MayWrite.{is_map_at}
 use Rattle.pg_order.proofs.lemmas.Lengths.{same_order}
 
 -- two records of different numbers
@@ -33,16 +32,16 @@ two_exchanged p q true false apart = refl
 two_exchanged p q false true apart = refl
 two_exchanged p q false false apart = refl
 
-one_or_two : (n : ℕ) → nat_eq 1 n ≡ true → nat_eq 2 n ≡ true → ⊥
+pub one_or_two : (n : ℕ) → nat_eq 1 n ≡ true → nat_eq 2 n ≡ true → ⊥
 one_or_two n h k = let a = eqb-true 1 n h in let b = eqb-true 2 n k in omega arith
 
-record_of : ℕ → ℕ → WireRecord
+unfoldable pub record_of : ℕ → ℕ → WireRecord
 record_of number n = item_record number (elements.Scalar Int32) (Int (pos n))
 
-entry_of : ℕ → ℕ → WireRecord
+unfoldable pub entry_of : ℕ → ℕ → WireRecord
 entry_of k n = written 1 Len (entry_bytes Int32 (elements.Scalar Int32) (Int (pos k)) (Int (pos n)))
 
-entries_in_order : (n : ℕ) → is_map_at (scalar 1 (Map Int32) Int32 ∷ []) n ≡ false → filter (of_number n) (entry_of 2 4 ∷ entry_of 1 3 ∷ []) ≡ filter (of_number n) (entry_of 1 3 ∷ entry_of 2 4 ∷ [])
+pub entries_in_order : (n : ℕ) → is_map_at (scalar 1 (Map Int32) Int32 ∷ []) n ≡ false → filter (of_number n) (entry_of 2 4 ∷ entry_of 1 3 ∷ []) ≡ filter (of_number n) (entry_of 1 3 ∷ entry_of 2 4 ∷ [])
 unfolding entry_of written
 entries_in_order n is = of (nat_eq 1 n) refl
   where
@@ -67,7 +66,7 @@ entries_exchanged = record {
   is_read = refl;
 }
 
-fields_exchanged : (n : ℕ) → filter (of_number n) (record_of 2 4 ∷ record_of 1 3 ∷ []) ≡ filter (of_number n) (record_of 1 3 ∷ record_of 2 4 ∷ [])
+pub fields_exchanged : (n : ℕ) → filter (of_number n) (record_of 2 4 ∷ record_of 1 3 ∷ []) ≡ filter (of_number n) (record_of 1 3 ∷ record_of 2 4 ∷ [])
 unfolding record_of written
 fields_exchanged n = two_exchanged (record_of 1 3) (record_of 2 4) (nat_eq 1 n) (nat_eq 2 n) (one_or_two n)
 
@@ -149,5 +148,13 @@ list_not_exchanged w =
     let bytes_are : ◌≡◌ {A = List ℕ} (8 ∷ 4 ∷ 8 ∷ 3 ∷ []) (8 ∷ 3 ∷ 8 ∷ 4 ∷ []) = w.bytes_are ∙ ap bytes_of records_are in
     cc
 
+unknown_not_exchanged : examples.UnknownNotExchanged
+unfolding varint tag written
+unknown_not_exchanged w =
+    let all : (rs : List WireRecord) → filter (is_unknown []) rs ≡ rs = λ rs. filter_all (is_unknown []) rs (each_of_all (λ r. is_unknown [] r ≡ true) (λ r. refl) rs) in
+    let records_are : w.records ≡ rest 1 3 ∷ rest 2 4 ∷ [] = sym (all w.records) ∙ w.reordered.unknown ∙ all (rest 1 3 ∷ rest 2 4 ∷ []) in
+    let bytes_are : ◌≡◌ {A = List ℕ} (16 ∷ 4 ∷ 8 ∷ 3 ∷ []) (8 ∷ 3 ∷ 16 ∷ 4 ∷ []) = w.bytes_are ∙ ap bytes_of records_are in
+    cc
+
 pub worked_orders : WorkedOrders
-worked_orders = (entries_exchanged, fields_are_exchanged, fields_inside_exchanged, list_parted, list_not_exchanged)
+worked_orders = (entries_exchanged, fields_are_exchanged, fields_inside_exchanged, list_parted, list_not_exchanged, unknown_not_exchanged)

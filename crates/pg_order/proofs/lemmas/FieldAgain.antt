@@ -1,8 +1,8 @@
 -- A field of children that the new type keeps, each child by itself and all together, is kept too where each child is written
 -- otherwise and is read again.
-use Rattle.std.proofs.Common.{◌≡◌, ℕ, ◌<◌, ◌≤◌, suc, List, [], ◌∷◌, map, filter, length, Bool, true, false, ◌&&◌, cond, Option, Some, None, is_some, unwrap_or, option_map, option_and_then, refl, ap, sym, subst, ◌∙◌, arith, rules}
+use Rattle.std.proofs.Common.{◌≡◌, ℕ, ◌≤◌, suc, List, [], ◌∷◌, map, filter, length, Bool, true, false, ◌&&◌, Option, Some, None, is_some, unwrap_or, option_map, refl, ap, sym, subst, ◌∙◌, arith, rules}
 use Rattle.std.specs.List.{AllByRecursion}
-use lib.Pointwise.{pointwise, pointwise_long}
+use lib.Pointwise.{pointwise_long}
 use Rattle.std.proofs.lemmas.List.{length-map}
 use Rattle.pg_schema.specs.declared.parts.field.TypeId.{TypeId}
 use Rattle.pg_schema.specs.declared.parts.field.Scalar.{Scalar}
@@ -26,15 +26,15 @@ use Rattle.pg_dyn.specs.views.Comparison.{View, Expected, expects, hides_zero, i
 use Rattle.pg_dyn.proofs.Lists.{and_then_some, each_weaker, option_map_some}
 use Rattle.pg_dyn.proofs.lemmas.reading.Fields.{field_of}
 use Rattle.pg_order.proofs.lemmas.KeyKinds.{all_some-length}
-use Rattle.pg_order.proofs.lemmas.KindsRead.{is_message, shown_child}
-use Rattle.pg_order.proofs.lemmas.FieldSeen.{IsGood, Pair, child_record, kept_from_content, kept_kinds, key_or, list_content, new_of, old_of, one_content, shown_parts}
+use Rattle.pg_order.proofs.lemmas.KindsRead.{shown_child}
+use Rattle.pg_order.proofs.lemmas.FieldSeen.{IsGood, Pair, kept_from_content, kept_kinds, key_or, list_content, new_of, old_of, one_content, shown_parts}
 use Rattle.pg_order.proofs.lemmas.MapSeen.{HasKey, maps_kept}
 
-filter_few : {A : Type 0} (test : A → Bool) (xs : List A) → length (filter test xs) ≤ length xs
+pub filter_few : {A : Type 0} (test : A → Bool) (xs : List A) → length (filter test xs) ≤ length xs
 filter_few test [] = omega arith
 filter_few test (x ∷ xs) = search (rules, arith, filter_few test xs)
 
-shown_few : (hidden : Bool) (n : ℕ) (qs : List (Part Item)) → length (shown is_zero_item hidden n qs) ≤ length qs
+pub shown_few : (hidden : Bool) (n : ℕ) (qs : List (Part Item)) → length (shown is_zero_item hidden n qs) ≤ length qs
 shown_few hidden n qs = filter_few _ qs
 
 -- a singular field of messages has one item at most

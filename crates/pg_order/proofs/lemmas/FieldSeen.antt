@@ -1,35 +1,27 @@
 -- A field of children that the new type keeps is kept too where each child is written otherwise, and is read again.
-use Rattle.std.proofs.Common.{◌≡◌, ℕ, ◌^◌, ◌<◌, ◌≤◌, suc, List, [], ◌∷◌, ◌++◌, map, filter, length, Bool, true, false, not, ◌&&◌, ◌||◌, cond, nat_eq, Option, Some, None, is_some, unwrap_or, option_map, option_and_then, Ok, refl, ap, ap₂, sym, subst, ◌∙◌, arith, append-nil, eq-eqb, true≢false, rules}
-use Rattle.std.specs.List.{AllByRecursion, list_all}
+use Rattle.std.proofs.Common.{◌≡◌, ℕ, ◌^◌, ◌<◌, List, [], ◌∷◌, map, filter, length, Bool, true, false, not, ◌&&◌, ◌||◌, Option, Some, None, is_some, unwrap_or, option_and_then, refl, ap, sym, subst, ◌∙◌, append-nil, eq-eqb}
+use Rattle.std.specs.List.{AllByRecursion}
 use Rattle.std.proofs.lemmas.Bool.{and_parts, and_from}
-use Rattle.std.proofs.lemmas.List.{length-map}
-use lib.Pointwise.{pointwise, pointwise_long}
+use lib.Pointwise.{pointwise}
 use Rattle.pg_schema.specs.declared.parts.field.TypeId.{TypeId}
 use Rattle.pg_schema.specs.declared.parts.field.Scalar.{Scalar}
-use Rattle.pg_schema.specs.declared.parts.field.Element.{Element}
 use Rattle.pg_schema.specs.declared.parts.field.Element.TheVariants as elements
 use Rattle.pg_schema.specs.declared.parts.field.Presence.{Presence}
 use Rattle.pg_schema.specs.declared.parts.field.Presence.TheVariants as presences
-use Rattle.pg_schema.specs.Shape.{FieldShape, is_map, is_packable}
+use Rattle.pg_schema.specs.Shape.{FieldShape, is_map}
 use Rattle.pg_schema.specs.ShapeRules.{PresenceFits}
-use Rattle.pg_wire.specs.declared.record.WireType.TheVariants.{Len}
-use Rattle.pg_wire.specs.Records.{WireRecord, records_of, written}
-use Rattle.pg_dyn.specs.reading.Optional.{all_some, joined}
-use Rattle.pg_dyn.specs.message.Message.{Leaf, Bytes, Item, Plain, Msg, Message, ends, Part, leaf_eq}
-use Rattle.pg_dyn.specs.word.Coding.{InRange, Raw, body, form, form_wire, zero_leaf}
-use Rattle.pg_dyn.specs.reading.Content.{content, entry_in, entry_part, key_field, leaves_in, takes, value_field}
-use Rattle.pg_dyn.specs.encoding.Writing.{entry_bytes, field_records, item_record, key_of}
-use Rattle.pg_dyn.specs.reading.Decoding.{Reader, all_plain_readable, is_plain_readable, is_readable, read_part}
+use Rattle.pg_wire.specs.Records.{WireRecord, written}
+use Rattle.pg_dyn.specs.reading.Optional.{all_some}
+use Rattle.pg_dyn.specs.message.Message.{Leaf, Bytes, Item, Msg, Message, ends, Part}
+use Rattle.pg_dyn.specs.word.Coding.{form, zero_leaf}
+use Rattle.pg_dyn.specs.reading.Content.{content, leaves_in, takes}
+use Rattle.pg_dyn.specs.encoding.Writing.{entry_bytes, field_records, item_record}
+use Rattle.pg_dyn.specs.reading.Decoding.{Reader, is_readable, read_part}
 use Rattle.pg_dyn.specs.fitting.Belonging.{KeyFits}
-use Rattle.pg_dyn.specs.laws.Bodies.{IsReadAs, two_records}
 use Rattle.pg_dyn.specs.laws.ByComparands.{all_field_readable, field_read, is_field_kept, is_shown}
 use Rattle.pg_dyn.specs.views.Comparison.{View, Comparand, Expected, Kept, expects, hides_zero, is_zero_expected, is_zero_item, matches, same_content, same_key, shown, writes}
 use Rattle.pg_dyn.proofs.Lists.{all_some-map_map, each_of_all, each_weaker, filter_all, each-map, joined-map_single, list_all_each, map_map}
-use Rattle.pg_dyn.proofs.lemmas.message.Plain.{plain_content_one, same_wire_self}
 use Rattle.pg_dyn.proofs.lemmas.reading.Fields.{field_of}
-use Rattle.pg_dyn.proofs.lemmas.reading.entries.Entries.{records_of_entry}
-use Rattle.pg_dyn.proofs.lemmas.word.Codings.{Reads-from_range}
-use Rattle.pg_dyn.proofs.lemmas.word.Leaves.{leaf_eq_self, same_leaf}
 use Rattle.pg_order.proofs.lemmas.KindsRead.{child_kinds, is_message, kinds_read, shown_child, shown_message}
 
 -- a child as it is encoded and as it is written, with what the new type has to show of it

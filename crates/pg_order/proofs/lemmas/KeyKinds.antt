@@ -1,19 +1,18 @@
 -- The keys that a map's reader reads are all numbers or all strings; a map's entries are read the same in another order.
-use Rattle.std.proofs.Common.{◌≡◌, ℕ, ℤ, pos, ◌≤◌, List, [], ◌∷◌, map, filter, length, Bool, true, false, cond, Option, Some, None, option_map, option_and_then, refl, ap, sym, subst, ◌∙◌, arith, rules}
+use Rattle.std.proofs.Common.{◌≡◌, ℕ, ℤ, pos, ◌≤◌, List, [], ◌∷◌, map, filter, length, Bool, true, false, cond, Option, Some, None, option_map, option_and_then, ap, sym, subst, ◌∙◌, arith}
 use Rattle.std.specs.Prelude.{IsPermutation}
 use Rattle.std.specs.List.{AllByRecursion}
 use Rattle.std.proofs.lemmas.List.{length-map}
 use Rattle.pg_schema.specs.declared.parts.field.Scalar.{Scalar}
 use Rattle.pg_schema.specs.declared.parts.field.Scalar.TheVariants as scalars
 use Rattle.pg_schema.specs.declared.parts.field.Element.{Element}
-use Rattle.pg_schema.specs.declared.parts.field.Element.TheVariants as elements
 use Rattle.pg_schema.specs.declared.parts.field.Presence.TheVariants as presences
 use Rattle.pg_schema.specs.rules.Fields.{is_key}
 use Rattle.pg_wire.specs.Reading.{row}
 use Rattle.pg_wire.specs.Records.{WireRecord, records_of}
 use Rattle.pg_dyn.specs.message.Message.{Leaf, Int, Bytes, Part}
 use Rattle.pg_dyn.specs.message.KeyOrder.{IsOfKind}
-use Rattle.pg_dyn.specs.word.Coding.{form, form_wire, scalar_form, leaf_in, element_at, zero_leaf}
+use Rattle.pg_dyn.specs.word.Coding.{form_wire, scalar_form, leaf_in, element_at, zero_leaf}
 use Rattle.pg_dyn.specs.reading.Optional.{all_some, first_or, joined, last_of}
 use Rattle.pg_dyn.specs.reading.Content.{same_wire, takes, option_from, packed_leaves, leaves_in, plain_content, key_field, value_field, entry_part, entry_in, by_key, content}
 use Rattle.pg_dyn.proofs.Lists.{and_then_some, each-joined, each_some, option_map_some}

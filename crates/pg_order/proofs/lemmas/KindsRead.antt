@@ -1,7 +1,7 @@
 -- What kind of parts a field reads: with keys just in a map, and messages just where it holds messages.
-use Rattle.std.proofs.Common.{◌≡◌, ℕ, List, [], ◌∷◌, map, filter, length, Bool, true, false, not, ◌&&◌, cond, nat_eq, Option, Some, None, is_some, option_map, option_and_then, refl, ap, ap₂, sym, subst, ◌∙◌, arith, eq-eqb, rules}
+use Rattle.std.proofs.Common.{◌≡◌, ℕ, List, [], ◌∷◌, map, filter, Bool, true, false, not, ◌&&◌, Option, Some, None, is_some, option_map, refl, ap, sym, subst, ◌∙◌, eq-eqb}
 use Rattle.std.specs.List.{AllByRecursion}
-use Rattle.std.proofs.lemmas.Bool.{and_parts, and_from}
+use Rattle.std.proofs.lemmas.Bool.{and_parts}
 use lib.Pointwise.{pointwise}
 use Rattle.pg_schema.specs.declared.parts.field.Element.{Element}
 use Rattle.pg_schema.specs.declared.parts.field.Element.TheVariants as elements
@@ -10,12 +10,12 @@ use Rattle.pg_schema.specs.declared.parts.field.Presence.TheVariants as presence
 use Rattle.pg_schema.specs.Shape.{FieldShape, is_map}
 use Rattle.pg_wire.specs.Records.{WireRecord}
 use Rattle.pg_dyn.specs.reading.Optional.{all_some}
-use Rattle.pg_dyn.specs.message.Message.{Leaf, Item, Plain, Msg, Message, Part, is_of}
+use Rattle.pg_dyn.specs.message.Message.{Leaf, Item, Plain, Msg, Message, Part}
 use Rattle.pg_dyn.specs.reading.Content.{by_key, content, entry_in, plain_content, takes}
 use Rattle.pg_dyn.specs.reading.Decoding.{Reader, read_item, read_part}
-use Rattle.pg_dyn.specs.views.Comparison.{View, Comparand, Expected, Alike, Kept, expects, hides_zero, is_zero_expected, is_zero_item, matches, same_content, same_key, shown}
+use Rattle.pg_dyn.specs.views.Comparison.{View, Expected, Kept, hides_zero, is_zero_expected, is_zero_item, matches, same_content, same_key, shown}
 use Rattle.pg_dyn.specs.laws.ByComparands.{field_read}
-use Rattle.pg_dyn.proofs.Lists.{and_then_some, each-map, each_of_all, each_some, each_weaker, each_filtered, option_map_some}
+use Rattle.pg_dyn.proofs.Lists.{and_then_some, each-map, each_of_all, each_filtered, option_map_some}
 use Rattle.pg_dyn.proofs.lemmas.reading.Fields.{field_of}
 
 abbrev pub is_message : Element → Bool

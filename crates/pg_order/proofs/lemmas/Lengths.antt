@@ -1,5 +1,5 @@
 -- All bytes that may be written of a message are as many, and the encoding is among them.
-use Rattle.std.proofs.Common.{◌≡◌, ℕ, ◌+◌, ◌≤◌, ◌⊎◌, inl, inr, List, [], ◌∷◌, ◌++◌, map, filter, flat_map, length, Bool, true, false, cond, nat_eq, Option, Some, None, unwrap_or, refl, ap, ap₂, sym, subst, ◌∙◌, arith, length-append, rules}
+use Rattle.std.proofs.Common.{◌≡◌, ℕ, ◌⊎◌, inl, inr, List, [], ◌∷◌, ◌++◌, map, filter, flat_map, length, true, false, cond, nat_eq, Option, unwrap_or, refl, ap, sym, subst, ◌∙◌, arith, length-append}
 use Rattle.std.specs.Bool.{⊤}
 use Rattle.std.proofs.lemmas.List.Sorted.{IsPermutation-refl}
 use Rattle.pg_schema.specs.declared.parts.field.TypeId.{TypeId}
@@ -13,13 +13,13 @@ use Rattle.pg_wire.specs.declared.record.WireType.{WireType}
 use Rattle.pg_wire.specs.declared.record.WireType.TheVariants.{Varint, I64, Len, I32}
 use Rattle.pg_wire.specs.Records.{WireRecord, written}
 use Rattle.pg_wire.proofs.Lengths.{length-written, length-written_grows}
-use Rattle.pg_dyn.specs.message.Message.{Leaf, Int, F32, F64, Bytes, Message, ends, holds, nests, Part, is_of, unknown_of}
+use Rattle.pg_dyn.specs.message.Message.{Leaf, Bytes, Message, ends, holds, nests, Part, is_of, unknown_of}
 use Rattle.pg_dyn.specs.word.Coding.{Form, Integer, Single, Double, Text, Raw, form, form_wire, body, zero_leaf}
 use Rattle.pg_dyn.specs.encoding.Writing.{entry_bytes, field_records, item_record, key_of, records_in, bytes_of}
 use Rattle.pg_dyn.specs.encoding.Encoding.{child_type, encoded_parts, enc}
 use Rattle.pg_dyn.proofs.Lists.{flat_map-append'}
 use Rattle.pg_dyn.proofs.lemmas.reading.Fields.{field_of}
-use Rattle.pg_order.specs.MayWrite.{IsReordered, IsWrittenOf, MayBeParts, MayWrite}
+use Rattle.pg_order.specs.MayWrite.{IsReordered, MayBeParts, MayWrite}
 use Rattle.pg_order.proofs.lemmas.Moved.{length-flat_moved}
 
 -- bytes in the place of as many others

@@ -1,5 +1,5 @@
 -- A map of children that the new type keeps is kept too where each child is written otherwise, and is read again.
-use Rattle.std.proofs.Common.{◌≡◌, ℕ, ◌^◌, ◌<◌, ◌≤◌, suc, List, [], ◌∷◌, ◌++◌, map, filter, length, Bool, true, false, not, ◌&&◌, ◌||◌, cond, nat_eq, Option, Some, None, is_some, unwrap_or, option_map, option_and_then, Ok, refl, ap, ap₂, sym, subst, ◌∙◌, arith, append-nil, eq-eqb, true≢false, rules}
+use Rattle.std.proofs.Common.{◌≡◌, ℕ, ◌^◌, ◌<◌, List, [], ◌∷◌, map, filter, length, Bool, true, false, not, ◌&&◌, ◌||◌, cond, Option, Some, None, is_some, unwrap_or, option_map, option_and_then, Ok, refl, ap, ap₂, sym, subst, ◌∙◌, append-nil, eq-eqb}
 use Rattle.std.specs.List.{AllByRecursion, list_all}
 use Rattle.std.proofs.lemmas.Bool.{and_parts, and_from}
 use lib.Pointwise.{pointwise}
@@ -16,10 +16,9 @@ use Rattle.pg_dyn.specs.word.Coding.{InRange, body, form, zero_leaf}
 use Rattle.pg_dyn.specs.reading.Content.{by_key, content, entry_in, entry_part, key_field, last_item, leaves_in, option_from, plain_content, takes, value_field}
 use Rattle.pg_dyn.specs.encoding.Writing.{entry_bytes, field_records, item_record, key_of}
 use Rattle.pg_dyn.specs.reading.Decoding.{Reader, all_plain_readable, is_plain_readable, is_readable, read_part}
-use Rattle.pg_dyn.specs.fitting.Belonging.{KeyFits}
 use Rattle.pg_dyn.specs.laws.ByComparands.{all_field_readable, field_read, is_field_kept}
 use Rattle.pg_dyn.specs.laws.FieldLaws.{EntriesRise}
-use Rattle.pg_dyn.specs.views.Comparison.{View, Expected, Kept, expects, hides_zero, is_zero_expected, is_zero_item, matches, same_content, same_key, shown, writes}
+use Rattle.pg_dyn.specs.views.Comparison.{View, Expected, Kept, hides_zero, matches, same_content, same_key, writes}
 use Rattle.pg_dyn.proofs.Lists.{all_some-map_map, each_weaker, filter_all, each-map, each_of_all, list_all_each, map_map}
 use Rattle.pg_dyn.proofs.PublicLaws.{rising_entries_stay}
 use Rattle.pg_dyn.proofs.lemmas.reading.Fields.{field_of}

@@ -1,15 +1,15 @@
 -- Of two fields that meet in one oneof of the new type one isn't shown, so that none meet in a message that is kept.
-use Rattle.std.proofs.Common.{◌≡◌, ℕ, zero, suc, ◌^◌, ◌<◌, ◌≤◌, ◌⊎◌, inl, inr, List, [], ◌∷◌, map, filter, length, Bool, true, false, not, ◌&&◌, ◌||◌, cond, nat_eq, Option, Some, None, option_and_then, Ok, refl, ap, ap₂, sym, subst, ◌∙◌, arith, eq-eqb, true≢false, rules}
+use Rattle.std.proofs.Common.{◌≡◌, ℕ, ◌^◌, ◌<◌, ◌⊎◌, inl, inr, List, [], ◌∷◌, map, filter, length, Bool, true, false, not, ◌&&◌, ◌||◌, cond, nat_eq, Option, Some, None, option_and_then, refl, ap, ap₂, sym, subst, ◌∙◌, eq-eqb, true≢false}
 use Rattle.std.specs.List.{AllByRecursion, list_any}
 use Rattle.std.proofs.lemmas.Bool.{and_parts, and_from, eqb-true, false_from_ne_true}
-use lib.Pointwise.{pointwise, pointwise_long}
+use lib.Pointwise.{pointwise}
 use Rattle.pg_schema.specs.declared.parts.field.TypeId.{TypeId}
 use Rattle.pg_schema.specs.declared.parts.field.Element.{Element}
 use Rattle.pg_schema.specs.declared.parts.field.Element.TheVariants as elements
 use Rattle.pg_schema.specs.declared.parts.field.Presence.{Presence}
 use Rattle.pg_schema.specs.declared.parts.field.Presence.TheVariants as presences
 use Rattle.pg_schema.specs.Shape.{Shape, FieldShape, fields, field_at, is_implicit, is_singular}
-use Rattle.pg_schema.specs.ShapeRules.{IsField, IsShape, IsType, PresenceFits, Rising}
+use Rattle.pg_schema.specs.ShapeRules.{IsField, IsShape, PresenceFits, Rising}
 use Rattle.pg_wire.specs.Records.{WireRecord}
 use Rattle.pg_dyn.specs.reading.Optional.{after_last_of, all_some}
 use Rattle.pg_dyn.specs.message.Message.{Leaf, Item, Message, ends, holds, nests, Part, parts, is_of, is_zero, IsPlain}
@@ -20,7 +20,7 @@ use Rattle.pg_dyn.specs.reading.Decoding.{dec, field_parts, read_part, read_reco
 use Rattle.pg_dyn.specs.fitting.Belonging.{IsMessage, LeafFits, MayBeZero}
 use Rattle.pg_dyn.specs.laws.ByComparands.{NoComparandsMeet, comparands_at}
 use Rattle.pg_dyn.specs.laws.Laws.{IsKeptByField}
-use Rattle.pg_dyn.specs.views.Comparison.{View, Comparand, Expected, comparands, expected, expects, hides_zero, is_zero_expected, is_zero_item, matches, same_content, same_key, shown}
+use Rattle.pg_dyn.specs.views.Comparison.{View, Comparand, Expected, comparands, expected, expects, hides_zero, is_zero_expected, matches, same_content, same_key, shown}
 use Rattle.pg_dyn.specs.views.Breaking.{is_kept}
 use Rattle.pg_dyn.proofs.Lists.{each_at, each_weaker, each-filter, filter-after_last_of_none, filter-map, list_any_at, none_list_any}
 use Rattle.pg_dyn.proofs.lemmas.fitting.Belonging.{fields-IsType}

@@ -1,6 +1,6 @@
 -- What stays of records in another order.
-use Rattle.std.proofs.Common.{◌≡◌, ℕ, ◌+◌, ◌≤◌, List, [], ◌∷◌, ◌++◌, map, filter, flat_map, fold, length, Bool, true, false, ◌&&◌, cond, Option, Some, None, option_map, option_and_then, unwrap_or, refl, ap, sym, subst, ◌∙◌, arith, length-append, rules}
-use Rattle.std.specs.Prelude.{sum_by, IsPermutation}
+use Rattle.std.proofs.Common.{◌≡◌, ℕ, ◌+◌, ◌≤◌, List, [], ◌∷◌, map, filter, flat_map, fold, length, Bool, true, false, ◌&&◌, Option, Some, option_map, unwrap_or, refl, ap, sym, subst, ◌∙◌, arith, length-append, rules}
+use Rattle.std.specs.Prelude.{IsPermutation}
 use Rattle.std.specs.List.{AllByRecursion}
 use Rattle.std.proofs.lemmas.List.Sorted.{sum_by-IsPermutation}
 use Rattle.std.proofs.lemmas.List.{length-map}

@@ -1,29 +1,26 @@
 -- A type reads what may be written of its message, in whatever order, as that message.
-use Rattle.std.proofs.Common.{◌≡◌, ℕ, ◌^◌, ◌<◌, ◌≤◌, ◌⊎◌, inl, inr, ⊎_elim, List, [], ◌∷◌, ◌++◌, map, filter, flat_map, length, Bool, true, false, nat_eq, Option, Some, None, Ok, refl, ap, ap₂, sym, subst, ◌∙◌, arith, append-nil, eq-eqb, length-append, rules}
-use Rattle.std.specs.Bool.{⊤}
+use Rattle.std.proofs.Common.{◌≡◌, ℕ, ◌^◌, ◌<◌, ◌≤◌, inl, inr, ⊎_elim, List, [], ◌++◌, filter, length, true, false, nat_eq, Option, Some, Ok, refl, ap, ap₂, sym, subst, ◌∙◌, arith, append-nil, eq-eqb, length-append}
 use Rattle.std.specs.List.{AllByRecursion}
 use Rattle.std.proofs.lemmas.Bool.{and_from}
 use Rattle.std.proofs.lemmas.List.{length-map}
 use Rattle.pg_schema.specs.declared.parts.field.TypeId.{TypeId}
-use Rattle.pg_schema.specs.declared.parts.field.Scalar.{Scalar}
 use Rattle.pg_schema.specs.declared.parts.field.Element.{Element}
 use Rattle.pg_schema.specs.declared.parts.field.Presence.{Presence}
 use Rattle.pg_schema.specs.declared.parts.field.Presence.TheVariants as presences
-use Rattle.pg_schema.specs.rules.Fields.{is_key}
 use Rattle.pg_schema.specs.Shape.{Shape, FieldShape, fields, field_at, is_map}
 use Rattle.pg_schema.specs.ShapeRules.{IsField, IsShape, IsType, PresenceFits}
 use Rattle.pg_wire.specs.Records.{WireRecord, IsRecord, records_of, written}
 use Rattle.pg_wire.specs.declared.record.WireType.TheVariants.{Len}
 use Rattle.pg_wire.proofs.RecordLaws.{records_of_Spells, Spells_from_records_of}
 use Rattle.pg_dyn.specs.message.Message.{Leaf, Message, ends, holds, nests, Part, parts, message_from, unknown_of, is_of}
-use Rattle.pg_dyn.specs.reading.Content.{counted, content, is_accepted, is_sibling, is_unknown, takes}
+use Rattle.pg_dyn.specs.reading.Content.{counted, content, is_accepted, takes}
 use Rattle.pg_dyn.specs.encoding.Writing.{entry_bytes, field_records, key_of, records_in, bytes_of}
 use Rattle.pg_dyn.specs.encoding.Encoding.{child_type, enc}
 use Rattle.pg_dyn.specs.reading.Decoding.{field_parts, read_records, dec}
 use Rattle.pg_dyn.specs.fitting.Belonging.{IsMessage, IsUnknown}
 use Rattle.pg_dyn.specs.laws.Laws.{of_number}
 use Rattle.pg_dyn.specs.laws.OwnParts.{ChildrenShorter}
-use Rattle.pg_dyn.proofs.Lists.{all_some-map, each-append, each_at, each_both, each_weaker, filter-append', filter-filter_weaker, filter_all, filter_none, flat_map-append'}
+use Rattle.pg_dyn.proofs.Lists.{all_some-map, each_at, each_both, each_weaker, filter-append', filter-filter_weaker, filter_all, filter_none, flat_map-append'}
 use Rattle.pg_dyn.proofs.lemmas.fitting.Belonging.{child_type_is, fields-IsType, is_flat, unknown_fits}
 use Rattle.pg_dyn.proofs.lemmas.laws.Flat.{IsFlat, Known, contents_again, counted_again, each_known, one_is_empty, own_each, own_records, records_again, unknown_again, unknown_not_taken}
 use Rattle.pg_dyn.proofs.lemmas.laws.Order.{NeverFalls, never_falls, of_each_is, places-parts}
@@ -33,7 +30,7 @@ use Rattle.pg_dyn.proofs.lemmas.reading.Depth.{dec_is}
 use Rattle.pg_dyn.proofs.lemmas.reading.Fields.{IsOwn, field_of}
 use Rattle.pg_dyn.proofs.lemmas.reading.records.Readable.{ChildReads, all_readable_again}
 use Rattle.pg_dyn.proofs.lemmas.reading.records.Splitting.{field_records_none, records_of_number, takes_number}
-use Rattle.pg_order.specs.MayWrite.{IsReordered, IsWrittenOf, MayBeParts, MayWrite, is_map_at}
+use Rattle.pg_order.specs.MayWrite.{IsReordered, MayBeParts, MayWrite}
 use Rattle.pg_order.proofs.lemmas.Moved.{length-flat_moved}
 use Rattle.pg_order.proofs.lemmas.Lengths.{one_length}
 use Rattle.pg_order.proofs.lemmas.PartsRead.{PartsRead, children_read, flat_read, message_from-parts, parts_again}
@@ -90,6 +87,23 @@ module _ (types : ℕ) (fs : List FieldShape) (ps : List (Part Leaf)) (us : List
       inr (subst (IsWholeMap g) (sym (taken g known)) (map_here g.number g.presence g.element g.oneof known.1.presence_fits map_field (filter (is_of g.number) ps) read))
 
 module _ (shape : Shape) (is_shape : IsShape shape) where
+  -- What was written of the parts, in whatever order, are records.
+  pub written_flat : (type : TypeId) (m : Message) → IsMessage shape type m → (ps : List (Part Leaf)) → PartsRead (dec shape) (fields shape type) m ps → (rs : List WireRecord) → IsReordered (fields shape type) (records_in (fields shape type) ps ++ unknown_of m) rs → length (bytes_of rs) < 2 ^ 64 → IsFlat (length shape) (fields shape type) ps (unknown_of m)
+  written_flat type m h ps again rs reordered short = record {
+    type = fields-IsType shape type is_shape;
+    parts = flat_read (dec shape) shape type (fields-IsType shape type is_shape) m h ps again;
+    unknown = unknown_fits shape type m h;
+    short = omega (arith, short, length-flat_moved (λ (r : WireRecord). r.bytes) (records_in (fields shape type) ps ++ unknown_of m) rs reordered.same, ap length (flat_map-append' (λ (r : WireRecord). r.bytes) (records_in (fields shape type) ps) (unknown_of m)), length-append (bytes_of (records_in (fields shape type) ps)) (bytes_of (unknown_of m)));
+  }
+
+  pub written_records : (type : TypeId) (m : Message) (ps : List (Part Leaf)) → IsFlat (length shape) (fields shape type) ps (unknown_of m) → (rs : List WireRecord) → IsReordered (fields shape type) (records_in (fields shape type) ps ++ unknown_of m) rs → records_of (bytes_of rs) ≡ Ok rs
+  written_records type m ps flat rs reordered =
+      records_of_Spells (bytes_of rs) rs
+      (record {
+        joined = refl;
+        each = each_moved IsRecord (records_in (fields shape type) ps ++ unknown_of m) rs reordered.same (Spells_from_records_of _ (records_in (fields shape type) ps ++ unknown_of m) (records_again (length shape) (fields shape type) ps (unknown_of m) flat)).each;
+      })
+
   -- One level: where each child is read again from its bytes, the message is, in whatever order.
   level_read : (type : TypeId) (m : Message) → IsMessage shape type m → (ps : List (Part Leaf)) → PartsRead (dec shape) (fields shape type) m ps → (rs : List WireRecord) → IsReordered (fields shape type) (records_in (fields shape type) ps ++ unknown_of m) rs → length (bytes_of rs) < 2 ^ 64
       → dec shape type (bytes_of rs) ≡ Some m
@@ -113,12 +127,7 @@ module _ (shape : Shape) (is_shape : IsShape shape) where
       is_type = fields-IsType shape type is_shape
 
       flat : IsFlat types fs ps us
-      flat = record {
-        type = is_type;
-        parts = flat_read (dec shape) shape type is_type m h ps again;
-        unknown = unknown_fits shape type m h;
-        short = omega (arith, short, length-flat_moved (λ (r : WireRecord). r.bytes) (records_in fs ps ++ us) rs reordered.same, ap length (flat_map-append' (λ (r : WireRecord). r.bytes) (records_in fs ps) us), length-append (bytes_of (records_in fs ps)) (bytes_of us));
-      }
+      flat = written_flat type m h ps again rs reordered short
 
       read : AllByRecursion (λ f. AllByRecursion (λ q. ChildReads (dec shape) f.element q.item) (filter (is_of f.number) ps)) fs
       read = each_weaker (Known types fs) (λ f. AllByRecursion (λ q. ChildReads (dec shape) f.element q.item) (filter (is_of f.number) ps)) (λ f known. children_read (dec shape) shape type is_type f known.0 m h ps again) fs (each_known types fs is_type)
@@ -135,15 +144,10 @@ module _ (shape : Shape) (is_shape : IsShape shape) where
           (ap Some (ap (λ qs. message_from qs us) (of_each_is fs (parts m) is_type.rising (subst (NeverFalls fs) (sym (places-parts m)) (never_falls shape type m h))) ∙ message_from-parts m))
 
       records : records_of (bytes_of rs) ≡ Ok rs
-      records =
-          records_of_Spells (bytes_of rs) rs
-          (record {
-            joined = refl;
-            each = each_moved IsRecord (records_in fs ps ++ us) rs reordered.same (Spells_from_records_of _ (records_in fs ps ++ us) (records_again types fs ps us flat)).each;
-          })
+      records = written_records type m ps flat rs reordered
 
   -- The children of a message are read from what may be written of them.
-  parts_read : (type : TypeId) (n : ℕ) (m : Message) → IsMessage shape type m → n ≤ 2 ^ 64 → ChildrenShorter shape type n m → (ps : List (Part Leaf)) → MayBeParts shape type m ps → PartsRead (dec shape) (fields shape type) m ps
+  pub parts_read : (type : TypeId) (n : ℕ) (m : Message) → IsMessage shape type m → n ≤ 2 ^ 64 → ChildrenShorter shape type n m → (ps : List (Part Leaf)) → MayBeParts shape type m ps → PartsRead (dec shape) (fields shape type) m ps
   parts_read type n (ends unknown) h small shorter ps is = is
   parts_read type n (holds number key leaf later) h small shorter ps (qs, is, rest) = (qs, is, parts_read type n later h.2 small shorter qs rest)
   parts_read type n (nests number key c later) h small shorter ps (qs, bytes, is, w, rest) =

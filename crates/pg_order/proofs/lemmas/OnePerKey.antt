@@ -1,9 +1,9 @@
 -- Entries of which each key is there once are sorted alike in whatever order they are put in.
-use Rattle.std.proofs.Common.{◌≡◌, ℕ, zero, suc, ◌+◌, ◌≤◌, ◌<◌, List, [], ◌∷◌, filter, fold, length, Bool, true, false, cond, refl, ap, sym, subst, ◌∙◌, arith, rules}
+use Rattle.std.proofs.Common.{◌≡◌, suc, ◌+◌, ◌≤◌, List, [], ◌∷◌, filter, fold, length, Bool, true, false, cond, refl, ap, sym, subst, ◌∙◌, arith, rules}
 use Rattle.std.specs.List.{AllByRecursion}
 use Rattle.std.specs.declared.cmp.Ordering.{Ordering}
 use Rattle.std.specs.declared.cmp.Ordering.TheVariants.{Less, Equal, Greater}
-use Rattle.pg_dyn.specs.message.Message.{Leaf, key_cmp, leaf_eq}
+use Rattle.pg_dyn.specs.message.Message.{Leaf, key_cmp}
 use Rattle.pg_dyn.specs.message.KeyOrder.{IsOfKind, Rise}
 use Rattle.pg_dyn.specs.reading.Content.{put, by_key}
 use Rattle.pg_dyn.proofs.Lists.{each_weaker}
@@ -11,7 +11,7 @@ use Rattle.pg_dyn.proofs.lemmas.fitting.FitsSteps.{key_trans}
 use Rattle.pg_dyn.proofs.lemmas.message.KeyLaws.{key_less_self}
 use Rattle.pg_dyn.proofs.lemmas.reading.entries.EntryPlaces.{less_from_above}
 use Rattle.pg_dyn.proofs.lemmas.word.Leaves.{same_leaf}
-use Rattle.pg_dyn.proofs.lemmas.reading.entries.LastOfKeys.{OfKind, each_placed, has_key, kind_all, none_of_key, place, placed, placed_alike, placed_one, rise_placed}
+use Rattle.pg_dyn.proofs.lemmas.reading.entries.LastOfKeys.{OfKind, each_placed, has_key, none_of_key, place, placed, placed_alike, placed_one, rise_placed}
 
 module _ {A : Type 0} (key : A → Leaf) where
   length-place : (e : A) (xs : List A) → length (place key e xs) ≤ suc (length xs)

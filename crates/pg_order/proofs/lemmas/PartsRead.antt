@@ -1,6 +1,5 @@
 -- The parts of a message with bytes in the place of each child, from which the type reads that child.
-use Rattle.std.proofs.Common.{◌≡◌, ℕ, ◌^◌, ◌<◌, List, [], ◌∷◌, map, filter, length, Bool, true, false, cond, nat_eq, Option, Some, is_some, refl, ap, sym, subst, ◌∙◌, arith, rules}
-use Rattle.std.specs.Bool.{⊤}
+use Rattle.std.proofs.Common.{◌≡◌, ℕ, List, [], ◌∷◌, map, filter, length, true, false, cond, nat_eq, Option, Some, is_some, refl, ap, sym, subst, ◌∙◌, arith, rules}
 use Rattle.std.specs.List.{AllByRecursion}
 use Rattle.std.proofs.lemmas.Bool.{eqb-true}
 use Rattle.pg_schema.specs.declared.parts.field.TypeId.{TypeId}

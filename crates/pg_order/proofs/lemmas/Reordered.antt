@@ -1,5 +1,5 @@
 -- Records in another order are read as the same parts.
-use Rattle.std.proofs.Common.{◌≡◌, ℕ, ◌≤◌, ◌⊎◌, inl, inr, ⊎_elim, List, [], ◌∷◌, map, filter, length, Bool, true, false, not, ◌&&◌, ◌||◌, cond, Option, Some, None, option_map, option_and_then, refl, ap, ap₂, sym, subst, ◌∙◌, arith, rules}
+use Rattle.std.proofs.Common.{◌≡◌, ℕ, ◌≤◌, ◌⊎◌, inl, inr, ⊎_elim, List, [], ◌∷◌, map, filter, length, Bool, true, false, not, ◌&&◌, ◌||◌, Option, Some, None, option_and_then, refl, ap, sym, subst, ◌∙◌}
 use Rattle.std.specs.Prelude.{IsPermutation}
 use Rattle.std.specs.List.{AllByRecursion, list_all, list_any}
 use Rattle.pg_schema.specs.declared.parts.field.Scalar.{Scalar}

@@ -1,10 +1,9 @@
 -- A child that alone is kept is read by the new type from its own bytes, and passes what is asked of it.
-use Rattle.std.proofs.Common.{◌≡◌, ℕ, ◌^◌, ◌<◌, List, [], ◌∷◌, map, filter, length, Bool, true, false, ◌&&◌, Option, Some, None, is_some, unwrap_or, option_map, option_and_then, refl, ap, ap₂, sym, subst, ◌∙◌, arith, rules}
+use Rattle.std.proofs.Common.{◌≡◌, ℕ, ◌^◌, ◌<◌, List, [], ◌∷◌, map, filter, length, true, false, ◌&&◌, Option, Some, None, unwrap_or, option_map, option_and_then, refl, ap, ap₂, sym, subst, ◌∙◌}
 use Rattle.std.proofs.lemmas.Bool.{and_parts}
 use lib.Pointwise.{pointwise}
 use Rattle.pg_schema.specs.declared.parts.field.TypeId.{TypeId}
 use Rattle.pg_schema.specs.declared.parts.field.Scalar.{Scalar}
-use Rattle.pg_schema.specs.declared.parts.field.Element.{Element}
 use Rattle.pg_schema.specs.declared.parts.field.Element.TheVariants as elements
 use Rattle.pg_schema.specs.declared.parts.field.Presence.{Presence}
 use Rattle.pg_schema.specs.declared.parts.field.Presence.TheVariants as presences
@@ -17,13 +16,13 @@ use Rattle.pg_dyn.specs.reading.Content.{content, takes}
 use Rattle.pg_dyn.specs.encoding.Writing.{entry_bytes, field_records}
 use Rattle.pg_dyn.specs.reading.Decoding.{Reader, read_part}
 use Rattle.pg_dyn.specs.fitting.Belonging.{KeyFits}
-use Rattle.pg_dyn.specs.laws.ByComparands.{field_read, is_field_kept}
+use Rattle.pg_dyn.specs.laws.ByComparands.{is_field_kept}
 use Rattle.pg_dyn.specs.views.Comparison.{View, Expected, Kept, hides_zero, matches, same_content, same_key, writes}
 use Rattle.pg_dyn.proofs.lemmas.reading.Fields.{field_of}
-use Rattle.pg_order.proofs.lemmas.KindsRead.{is_message, shown_child, shown_message}
-use Rattle.pg_order.proofs.lemmas.FieldSeen.{IsShown, Pair, all_taken, child_record, kept_kinds, key_or, list_content, new_of, old_of, one_content, part_from, records_are, shown_parts}
+use Rattle.pg_order.proofs.lemmas.KindsRead.{shown_child, shown_message}
+use Rattle.pg_order.proofs.lemmas.FieldSeen.{IsShown, Pair, all_taken, child_record, kept_kinds, key_or, list_content, old_of, one_content, part_from, records_are, shown_parts}
 use Rattle.pg_order.proofs.lemmas.FieldAgain.{differ, key_in_map, no_key_in}
-use Rattle.pg_order.proofs.lemmas.MapSeen.{SaysOwn, item_with, message_with, none_some, says_own, some_parts}
+use Rattle.pg_order.proofs.lemmas.MapSeen.{item_with, message_with, none_some, says_own, some_parts}
 
 -- the child is read and passes
 pub record IsReadSo (child : Reader) (u : TypeId) (z : Pair) : Type 0 where

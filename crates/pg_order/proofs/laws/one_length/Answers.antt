@@ -1,5 +1,5 @@
-use Rattle.pg_order.proofs.lemmas.Lengths as Lengths
+use Rattle.pg_order.proofs.PublicLaws as PublicLaws
 use Rattle.pg_order.proofs.laws.one_length.Goals as goal
 
 pub returns : goal.returns
-returns c = Lengths.one_length
+returns c = PublicLaws.one_length

@@ -1,4 +1,4 @@
-use Rattle.std.proofs.Common.{arith, rules}
+use Rattle.std.proofs.Common.{arith}
 use Rattle.pg_order.proofs.lemmas.OldReads as OldReads
 use Rattle.pg_order.proofs.laws.reads_any_order.Goals as goal
 
