@@ -156,13 +156,13 @@ module _ (enum_view : EnumView) (old new : Parts) (law : IsEnumView enum_view) (
     pub told_among : IsAmong as_told (of_pair pair)
     pub same : told_in c ≡ in_pair pair as_told
 
-  is_of : (c : Cause) → IsAmong c told → IsOf c
+  pub is_of : (c : Cause) → IsAmong c told → IsOf c
   is_of c among =
       let (pair, in_pairs, here) = among_flat_map (causes_at enum_view (shape_of old) (shape_of new)) (told_in c) pairs (subst (IsAmong (told_in c)) are (among_map told_in c told among)) in
       let (t, in_told, same) = map_among (in_pair pair) (told_in c) (of_pair pair) here in
       record { pair = pair; pair_among = in_pairs; as_told = t; told_among = in_told; same = same }
 
-  cause_of : (c : Cause) → IsAmong c told → IsCause enum_view old new c
+  pub cause_of : (c : Cause) → IsAmong c told → IsCause enum_view old new c
   cause_of c among = among_each (IsCause enum_view old new) c told among each
 
   -- Each has its own fields.

@@ -15,6 +15,7 @@ use Rattle.pg_pairs.specs.choices.Choices.{is_oneof}
 use Rattle.pg_pairs.specs.bounds.Covering.{IsAmong, children}
 use Rattle.pg_pairs.specs.choices.Held.{HoldsCause, NoneBreaksInside}
 use Rattle.pg_pairs.specs.laws.FieldCosts.{IsShared}
+use Rattle.pg_pairs.specs.laws.OwnWays.{HoldsOnly, fields_of}
 use Rattle.pg_pairs.specs.laws.WaysTold.{HasItsFields, Pairwise}
 use Rattle.pg_pairs.specs.views.EnumView.{EnumView}
 use Rattle.pg_pairs.specs.graph.Reached.{IsReachedFrom}
@@ -99,6 +100,33 @@ IsShortest enum_view old new cause =
     BreaksFor enum_view (shape_of old) (shape_of new) cause.at.pair cause.reason f g message →
     length cause.message.items ≤ length (enc (shape_of old) cause.at.pair.old message)
 
+-- A message of the pair breaks for a reason at a field of both types.
+pub record HasReason (enum_view : EnumView) (old new : Shape) (pair : Pair) (message : Message) : Type 0 where
+  pub old_field : FieldShape
+  pub new_field : FieldShape
+  pub shared : IsShared old new pair old_field new_field
+  pub reason : Reason
+  pub breaks_for : BreaksFor enum_view old new pair reason old_field new_field message
+
+-- Each message of the pair that breaks, while no message inside it breaks by a child pair, has a reason.
+abbrev pub EachBreakHasReason : EnumView → Parts → Parts → Pair → Type 0
+EachBreakHasReason enum_view old new pair =
+    (message : Message) → Breaks enum_view.alike (shape_of old) (shape_of new) pair.old pair.new message →
+    NoneBreaksInside enum_view (shape_of old) (shape_of new) pair message →
+    HasReason enum_view (shape_of old) (shape_of new) pair message
+
+-- The cause's own message breaks for the cause's reason at one of its fields. It holds no other field; of fields that
+-- meet it holds two of the cause's.
+pub record ShowsItsReason (enum_view : EnumView) (old new : Parts) (cause : Cause) : Type 0 where
+  pub old_field : FieldShape
+  pub new_field : FieldShape
+  pub shared : IsShared (shape_of old) (shape_of new) cause.at.pair old_field new_field
+  pub field : IsAmong old_field.number cause.numbers.items
+  pub breaks_for : BreaksFor enum_view (shape_of old) (shape_of new) cause.at.pair cause.reason old_field new_field
+      (shown_by enum_view (shape_of old) (shape_of new) cause.at)
+  pub only : HoldsOnly (fields_of cause.at.choice) (shown_by enum_view (shape_of old) (shape_of new) cause.at)
+  pub own : AllByRecursion (λ number. IsAmong number cause.numbers.items) (fields_of cause.at.choice)
+
 -- the number of one field, or those of all fields that come into one oneof of the new type
 abbrev pub OwnFields : Parts → Parts → Cause → Type 0
 OwnFields old new cause =
@@ -116,7 +144,9 @@ pub record AreCauses (enum_view : EnumView) (old new : Parts) (roots : List Pair
   pub are : map told_in told ≡ flat_map (causes_at enum_view (shape_of old) (shape_of new)) pairs
   pub each : AllByRecursion (IsCause enum_view old new) told
   pub all : AllByRecursion (EachBreakIsTold enum_view old new told) pairs
+  pub reasons : AllByRecursion (EachBreakHasReason enum_view old new) pairs
   pub by_reason : AllByRecursion (EachReasonIsTold enum_view old new told) pairs
   pub shortest : AllByRecursion (IsShortest enum_view old new) told
+  pub shown : AllByRecursion (ShowsItsReason enum_view old new) told
   pub fields : AllByRecursion (OwnFields old new) told
   pub once : Pairwise AreTwo told

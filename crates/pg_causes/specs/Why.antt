@@ -3,7 +3,7 @@ use Rattle.std.specs.Prelude.{◌≡◌, ℕ, true, false, ◌⊎◌}
 use Rattle.pg_schema.specs.Shape.{FieldShape, Shape}
 use Rattle.pg_dyn.specs.message.Message.{Message}
 use Rattle.pg_pairs.specs.declared.choices.choice.Pair.{Pair}
-use Rattle.pg_pairs.specs.choices.Ways.{BreaksAsList, HoldsBoth, HoldsMisreadItem, HoldsMisreadKey, HoldsMisreadValue, HoldsUnlike, HoldsUnlikeEntry}
+use Rattle.pg_pairs.specs.choices.Ways.{BreaksInOne, HoldsBoth, HoldsMisreadItem, HoldsMisreadKey, HoldsMisreadValue, HoldsUnlike, HoldsUnlikeEntry}
 use Rattle.pg_pairs.specs.views.EnumView.{EnumView}
 use Rattle.pg_causes.specs.Reasons.{are_enums}
 use Rattle.pg_causes.specs.declared.overview.Reason.{Reason}
@@ -21,7 +21,7 @@ BreaksFor view old new pair reasons.Value f g message =
     (are_enums f.element g.element ≡ false) × HoldsMisreadItem view.alike f g message
 BreaksFor view old new pair reasons.Name f g message =
     (are_enums f.element g.element ≡ true) × HoldsMisreadItem view.alike f g message
-BreaksFor view old new pair reasons.ListToOne f g message = BreaksAsList view.alike old new pair f g message
+BreaksFor view old new pair reasons.ListToOne f g message = BreaksInOne view.alike old new pair f g message
 BreaksFor view old new pair reasons.Map f g message = HoldsUnlikeEntry f g message
 BreaksFor view old new pair reasons.MapKey f g message = HoldsMisreadKey view.alike f g message
 BreaksFor view old new pair reasons.MapValue f g message = HoldsMisreadValue view.alike f g message

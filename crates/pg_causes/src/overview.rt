@@ -12,8 +12,8 @@ use pg_least::laws::compatible_without_causes;
 use pg_least::{PairChoice, bounds_from};
 use pg_pairs::Priced;
 use pg_pairs::laws::{
-    breaks_are_told, causes_are_apart, causes_are_told, causes_have_their_fields, sees,
-    ways_are_told,
+    breaks_are_told, causes_are_apart, causes_are_told, causes_break_their_way,
+    causes_have_their_fields, sees, ways_are_told, ways_cover,
 };
 use pg_schema::Schema;
 use std::alloc::{AllocError, Global};
@@ -50,8 +50,9 @@ pub struct Cause {
     /// Why it breaks.
     pub reason: Reason,
     /// The encoding of a shortest message of the pair's old type that breaks for this reason at
-    /// these fields. Of fields that meet it holds the first two of the least cost; one of them may
-    /// break by itself in fewer bytes, and is then told as a cause of its own too.
+    /// these fields, and holds no other field. Of fields that meet it holds the first two of the
+    /// least cost; one of them may break by itself in fewer bytes, and is then told as a cause of
+    /// its own too.
     pub message: Vec<u8>,
 }
 
@@ -89,6 +90,8 @@ fn overview_of(alloc: Global, graph: &Priced<'_>) -> Result<Overview, AllocError
     causes_are_told();
     breaks_are_told();
     ways_are_told();
+    ways_cover();
+    causes_break_their_way();
     causes_are_apart();
     causes_have_their_fields();
     let roots = roots_of(alloc, graph.old, graph.new)?;

@@ -3,10 +3,14 @@ use Rattle.pg_pairs.specs.graph.Edges.{PairsLeadToPairs}
 use Rattle.pg_pairs.specs.laws.BreaksTold.{BreaksAreTold}
 use Rattle.pg_pairs.proofs.lemmas.bounds.BreaksTold as BreaksTold
 use Rattle.pg_pairs.specs.laws.ToldLaws.{CausesAreTold}
+use Rattle.pg_pairs.specs.laws.OwnWays.{CausesBreakTheirWay}
+use Rattle.pg_pairs.specs.laws.WaysCover.{WaysCover}
 use Rattle.pg_pairs.specs.laws.WaysTold.{CausesAreApart, CausesHaveTheirFields, WaysAreTold}
+use Rattle.pg_pairs.proofs.lemmas.bounds.WaysCover as Cover
 use Rattle.pg_pairs.proofs.lemmas.bounds.WaysTold as WaysTold
 use Rattle.pg_pairs.proofs.lemmas.choices.Apart as Apart
 use Rattle.pg_pairs.proofs.lemmas.choices.ToldLemmas as ToldLemmas
+use Rattle.pg_pairs.proofs.lemmas.witness.OwnWays as OwnWays
 use Rattle.pg_pairs.proofs.lemmas.graph.EdgeLaws.{led_to_there}
 
 pub pairs_lead_to_pairs : PairsLeadToPairs
@@ -26,3 +30,9 @@ causes_are_apart = Apart.causes_are_apart
 
 pub causes_have_their_fields : CausesHaveTheirFields
 causes_have_their_fields = ToldLemmas.causes_have_their_fields
+
+pub ways_cover : WaysCover
+ways_cover = Cover.ways_cover
+
+pub causes_break_their_way : CausesBreakTheirWay
+causes_break_their_way = OwnWays.causes_break_their_way

@@ -7,8 +7,10 @@ pub mod EdgeChildren
 pub mod ElementGaps
 pub mod FieldCosts
 pub mod HomeExamples
+pub mod OwnWays
 pub mod ReadBack
 pub mod SmallPairs
 pub mod SmallTold
 pub mod ToldLaws
+pub mod WaysCover
 pub mod WaysTold

@@ -5,6 +5,8 @@ ghost use Rattle.pg_pairs.specs.laws.BreaksTold.{BreaksAreTold};
 ghost use Rattle.pg_pairs.specs.laws.CauseLaws.{CausesAreOwn, NamesAlone, PricesAreNear};
 ghost use Rattle.pg_pairs.specs.laws.SmallTold.{SmallTold};
 ghost use Rattle.pg_pairs.specs.laws.ToldLaws.{CausesAreTold};
+ghost use Rattle.pg_pairs.specs.laws.OwnWays.{CausesBreakTheirWay};
+ghost use Rattle.pg_pairs.specs.laws.WaysCover.{WaysCover};
 ghost use Rattle.pg_pairs.specs.laws.WaysTold.{CausesAreApart, CausesHaveTheirFields, WaysAreTold};
 ghost use Rattle.pg_pairs.specs.laws.CheapestLaws.{CheapestIsLeast};
 ghost use Rattle.pg_pairs.specs.laws.ComesHome.{MessagesComeHome};
@@ -170,6 +172,18 @@ pub fn breaks_are_told()
 /// meet in a oneof. The cause costs no more than the message has bytes.
 pub fn ways_are_told()
     ensures { WaysAreTold }
+{}
+
+/// A message that breaks, while none inside it breaks by a child pair, breaks in one of these ways at
+/// a field of both types.
+pub fn ways_cover()
+    ensures { WaysCover }
+{}
+
+/// The message of each cause breaks in the way of the cause, at its field, and holds no other field;
+/// of fields that meet in a oneof it holds two.
+pub fn causes_break_their_way()
+    ensures { CausesBreakTheirWay }
 {}
 
 /// No two of the causes told of a pair are of the same fields in the same way.

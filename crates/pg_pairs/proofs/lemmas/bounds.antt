@@ -9,9 +9,12 @@ pub mod Dearer
 pub mod Decisions
 pub mod Exact
 pub mod Fates
+pub mod FieldKinds
 pub mod FieldAlone
+pub mod HeldParts
 pub mod KeptUpTo
 pub mod LeastCosts
+pub mod ListsTold
 pub mod LowerBound
 pub mod Messages
 pub mod OneField
@@ -20,4 +23,5 @@ pub mod Packed
 pub mod Single
 pub mod ToChildren
 pub mod Ways
+pub mod WaysCover
 pub mod WaysTold

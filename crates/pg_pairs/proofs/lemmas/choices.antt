@@ -9,6 +9,7 @@ pub mod Costs
 pub mod LeastMembers
 pub mod LowCosts
 pub mod Offers
+pub mod Meetings
 pub mod OneofLinks
 pub mod OptionSteps
 pub mod ToldLemmas

@@ -3,6 +3,7 @@ pub mod EntriesRead
 pub mod EntryRecords
 pub mod LeastContents
 pub mod Meeting
+pub mod OwnWays
 pub mod Reached
 pub mod SameFields
 pub mod SameLengths

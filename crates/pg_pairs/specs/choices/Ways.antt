@@ -1,6 +1,5 @@
 -- The ways in which a message breaks by itself: what it holds of a field that the new type reads otherwise.
-use Rattle.std.specs.Prelude.{◌≡◌, ℕ, ◌<◌, Bool, true, false, not, ◌&&◌, ◌||◌, if◌then◌else◌, Option, Some}
-use Rattle.pg_schema.specs.declared.parts.field.Element.{Element}
+use Rattle.std.specs.Prelude.{◌≡◌, ℕ, ◌<◌, nat_eq, Bool, true, false, not, ◌&&◌, ◌||◌, if◌then◌else◌, Option, Some, ◌⊎◌}
 use Rattle.pg_schema.specs.declared.parts.field.Element.TheVariants as elements
 use Rattle.pg_schema.specs.declared.parts.field.Scalar.{Scalar}
 use Rattle.pg_schema.specs.declared.parts.field.Presence.TheVariants as presences
@@ -8,7 +7,9 @@ use Rattle.pg_schema.specs.Shape.{Shape, FieldShape, field_at, fields, is_map, i
 use Rattle.pg_dyn.specs.reading.Content.{same_oneof}
 use Rattle.pg_dyn.specs.message.Message.{Leaf, Item, Plain, Msg, Message, only}
 use Rattle.pg_dyn.specs.views.Breaking.{Breaks}
-use Rattle.pg_dyn.specs.views.Comparison.{View, hides_zero, is_zero_item}
+use Rattle.pg_dyn.specs.views.Comparison.{View, hides_zero, is_zero_item, numbers}
+use Rattle.pg_pairs.specs.declared.choices.case.Case.{Case}
+use Rattle.pg_pairs.specs.declared.choices.case.Case.TheVariants as cases
 use Rattle.pg_pairs.specs.declared.choices.choice.Pair.{Pair}
 use Rattle.pg_pairs.specs.bounds.Covering.{IsAmong, field_children}
 use Rattle.pg_pairs.specs.choices.Held.{HoldsField, HasItem}
@@ -70,6 +71,11 @@ pub record BreaksAsList (view : View) (old new : Shape) (pair : Pair) (f g : Fie
   pub each : (key : Option Leaf) (item : Item) → HasItem f.number key item v → IsReadAsItself view old new f g item
   pub breaks : Breaks view old new pair.old pair.new (only f.number v)
 
+-- It breaks so by the view, or by numbers: where an enum's numbers have other names, the list may break of itself all
+-- the same.
+abbrev pub BreaksInOne : View → Shape → Shape → Pair → FieldShape → FieldShape → Message → Type 0
+BreaksInOne view old new pair f g v = BreaksAsList view old new pair f g v ⊎ BreaksAsList numbers old new pair f g v
+
 -- An entry of a map whose keys or values are of unlike kinds.
 pub record HoldsUnlikeEntry (f g : FieldShape) (v : Message) : Type 0 where
   pub maps : AreMaps f g
@@ -106,3 +112,19 @@ pub record HoldsBoth (new : Shape) (pair : Pair) (first second : ℕ) (v : Messa
   pub first_found : field_at (fields new pair.new) first ≡ Some first_new
   pub second_found : field_at (fields new pair.new) second ≡ Some second_new
   pub one_oneof : same_oneof first_new.oneof second_new.oneof ≡ true
+
+-- an entry of two maps, by its part
+abbrev pub BreaksAsEntry : (is_key is_value : Bool) → View → FieldShape → FieldShape → Message → Type 0
+BreaksAsEntry true is_value view f g v = HoldsMisreadKey view f g v
+BreaksAsEntry false true view f g v = HoldsMisreadValue view f g v
+BreaksAsEntry false false view f g v = HoldsUnlikeEntry f g v
+
+-- The way of each case, at a field of both types. A message inside is no way of its own. Of fields that meet the part
+-- is the second's number.
+abbrev pub BreaksBy : View → Shape → Shape → Pair → Case → ℕ → FieldShape → FieldShape → Message → Type 0
+BreaksBy view old new pair cases.Unlike part f g v = HoldsUnlike f g v
+BreaksBy view old new pair cases.Gap part f g v = HoldsMisreadItem view f g v
+BreaksBy view old new pair cases.Child part f g v = ⊥
+BreaksBy view old new pair cases.List part f g v = BreaksInOne view old new pair f g v
+BreaksBy view old new pair cases.Map part f g v = BreaksAsEntry (nat_eq part 1) (nat_eq part 2) view f g v
+BreaksBy view old new pair cases.Oneof part f g v = HoldsBoth new pair f.number part v

@@ -16,7 +16,7 @@ use Rattle.pg_pairs.specs.views.ViewLaws.{IsEnumView}
 use Rattle.pg_pairs.specs.bounds.Covering.{IsAmong}
 use Rattle.pg_pairs.specs.choices.Choices.{is_oneof}
 use Rattle.pg_pairs.specs.choices.Told.{Told, told_causes}
-use Rattle.pg_pairs.specs.choices.Ways.{BreaksAsList, HoldsBoth, HoldsMisreadItem, HoldsMisreadKey, HoldsMisreadValue, HoldsUnlike, HoldsUnlikeEntry}
+use Rattle.pg_pairs.specs.choices.Ways.{BreaksInOne, HoldsBoth, HoldsMisreadItem, HoldsMisreadKey, HoldsMisreadValue, HoldsUnlike, HoldsUnlikeEntry}
 use Rattle.pg_pairs.specs.laws.FieldCosts.{IsShared}
 
 -- a cause of just this field is told, by that case and part of a map's entry, that costs at most so many bytes
@@ -44,7 +44,7 @@ pub record WaysOf (enum_view : EnumView) (old new : Shape) (pair : Pair) (v : Me
       IsToldAt told f.number cases.Unlike 0 (length (enc old pair.old v))
   pub item : (f g : FieldShape) → IsShared old new pair f g → HoldsMisreadItem enum_view.alike f g v →
       IsToldAt told f.number cases.Gap 0 (length (enc old pair.old v))
-  pub list : (f g : FieldShape) → IsShared old new pair f g → BreaksAsList enum_view.alike old new pair f g v →
+  pub list : (f g : FieldShape) → IsShared old new pair f g → BreaksInOne enum_view.alike old new pair f g v →
       IsToldAt told f.number cases.List 0 (length (enc old pair.old v))
   pub entry : (f g : FieldShape) → IsShared old new pair f g → HoldsUnlikeEntry f g v →
       IsToldAt told f.number cases.Map 0 (length (enc old pair.old v))
@@ -90,14 +90,17 @@ pub record ComesInto (old new : Shape) (pair : Pair) (oneof number : ℕ) : Type
   pub new_found : field_at (fields new pair.new) number ≡ Some new_field
   pub into : new_field.oneof ≡ Some oneof
 
--- The numbers are those of all fields that come into one oneof of the new type. The two by which they break aren't in
--- one oneof of the old type.
+-- The numbers are those of all fields that come into one oneof of the new type. The two by which they break are fields
+-- of the old type, and not in one oneof of it.
 pub record ComeIntoOne (old new : Shape) (pair : Pair) (numbers : List ℕ) (choice : Choice) : Type 0 where
   pub oneof : ℕ
   pub each : AllByRecursion (ComesInto old new pair oneof) numbers
   pub all : (number : ℕ) → ComesInto old new pair oneof number → IsAmong number numbers
-  pub apart : (f e : FieldShape) → field_at (fields old pair.old) choice.number ≡ Some f →
-      field_at (fields old pair.old) choice.part ≡ Some e → same_oneof f.oneof e.oneof ≡ false
+  pub first : FieldShape
+  pub second : FieldShape
+  pub first_found : field_at (fields old pair.old) choice.number ≡ Some first
+  pub second_found : field_at (fields old pair.old) choice.part ≡ Some second
+  pub apart : same_oneof first.oneof second.oneof ≡ false
 
 -- A cause of one field has just its number; of fields that meet it has those of all that come into their new oneof.
 pub record HasItsFields (old new : Shape) (pair : Pair) (numbers : List ℕ) (choice : Choice) : Type 0 where

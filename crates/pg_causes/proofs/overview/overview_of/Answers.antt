@@ -10,6 +10,7 @@ use Rattle.pg_least.specs.From.{AreBoundsFrom}
 use Rattle.pg_causes.specs.Names.{shared}
 use Rattle.pg_causes.specs.declared.overview.TypeLine.{TypeLine}
 use Rattle.pg_causes.proofs.Explained.{all_told}
+use Rattle.pg_causes.proofs.Reasoned.{each_has_reason, each_shown}
 use Rattle.pg_causes.proofs.Told.{each_own, each_reason, each_shortest, pairs_apart, told_once}
 use Rattle.pg_causes.proofs.Overviews.{all_there, are_pairs, bounds_there, lines_are, none_caused, old_there}
 use Rattle.pg_causes.proofs.overview.overview_of.Goals as goal
@@ -64,9 +65,11 @@ returns c =
         are = c.in_ok-causes_in.ensures.are;
         each = c.in_ok-causes_in.ensures.each;
         all = all_told view old new c.sees.ensures c.parts.ensures.checked.shape c.parts-2.ensures.checked.shape c.breaks_are_told.ensures (pairs_of bounds) causes c.in_ok-causes_in.ensures.are c.in_ok-causes_in.ensures.each;
+        reasons = each_has_reason view old new c.sees.ensures c.parts.ensures.checked.shape c.parts-2.ensures.checked.shape (pairs_of bounds) causes c.in_ok-causes_in.ensures.are c.in_ok-causes_in.ensures.each c.ways_cover.ensures;
         by_reason = each_reason view old new c.sees.ensures c.parts.ensures.checked.shape c.parts-2.ensures.checked.shape (pairs_of bounds) causes c.in_ok-causes_in.ensures.are c.in_ok-causes_in.ensures.each c.breaks_are_told.ensures c.ways_are_told.ensures;
         shortest = each_shortest view old new c.sees.ensures c.parts.ensures.checked.shape c.parts-2.ensures.checked.shape (pairs_of bounds) causes c.in_ok-causes_in.ensures.are c.in_ok-causes_in.ensures.each c.breaks_are_told.ensures c.ways_are_told.ensures
             c.causes_are_apart.ensures other c.causes_have_their_fields.ensures c.causes_are_told.ensures;
+        shown = each_shown view old new c.sees.ensures c.parts.ensures.checked.shape c.parts-2.ensures.checked.shape (pairs_of bounds) causes c.in_ok-causes_in.ensures.are c.in_ok-causes_in.ensures.each c.causes_are_told.ensures c.causes_break_their_way.ensures;
         fields = each_own view old new c.sees.ensures c.parts.ensures.checked.shape c.parts-2.ensures.checked.shape (pairs_of bounds) causes c.in_ok-causes_in.ensures.are c.in_ok-causes_in.ensures.each c.causes_have_their_fields.ensures;
         once = told_once view old new c.sees.ensures c.parts.ensures.checked.shape c.parts-2.ensures.checked.shape (pairs_of bounds) causes c.in_ok-causes_in.ensures.are c.in_ok-causes_in.ensures.each c.causes_are_apart.ensures other;
       };

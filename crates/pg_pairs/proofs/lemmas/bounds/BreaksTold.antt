@@ -36,8 +36,9 @@ use Rattle.pg_pairs.proofs.lemmas.bounds.OneField.{contents_cost}
 use Rattle.pg_pairs.proofs.lemmas.bounds.OneMessage.{Meets, total_within}
 use Rattle.pg_pairs.proofs.lemmas.choices.Among.{among_each}
 use Rattle.pg_pairs.proofs.lemmas.choices.Choosing.{joined_allowed}
+use Rattle.pg_pairs.proofs.lemmas.choices.Meetings.{all_own, found_among}
 use Rattle.pg_pairs.proofs.lemmas.choices.Offers.{each_own}
-use Rattle.pg_pairs.proofs.lemmas.choices.ToldLemmas.{affordable_in, all_own, are_told, found_among, own_alone}
+use Rattle.pg_pairs.proofs.lemmas.choices.ToldLemmas.{affordable_in, are_told, own_alone}
 use Rattle.pg_pairs.proofs.lemmas.graph.Reaching.{every_is_among}
 
 -- each choice of a field has its number

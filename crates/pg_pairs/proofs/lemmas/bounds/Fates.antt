@@ -226,13 +226,13 @@ module _ (enum_view : EnumView) (law : IsEnumView enum_view) (table : Table) (ch
 
   -- Maps.
 
-  key_there : (k : Scalar) (c : Comparand) → KeyFits (presences.Map k) c.key → c.key ≡ Some (key_of k (writes c))
+  pub key_there : (k : Scalar) (c : Comparand) → KeyFits (presences.Map k) c.key → c.key ≡ Some (key_of k (writes c))
   key_there k c h = search (rules, unwrap_or)
 
-  key_range : (k : Scalar) (c : Comparand) → KeyFits (presences.Map k) c.key → InRange (form (elements.Scalar k)) (key_of k (writes c))
+  pub key_range : (k : Scalar) (c : Comparand) → KeyFits (presences.Map k) c.key → InRange (form (elements.Scalar k)) (key_of k (writes c))
   key_range k c h = search (rules, unwrap_or)
 
-  key_seen : (k l : Scalar) → like (elements.Scalar k) (elements.Scalar l) ≡ true → (m : ℕ) → m < 2 ^ 64 → (c : Comparand) → Holds (old (presences.Map k)) c → EntryCosts (old (presences.Map k)) k m c → is_seen enum_view.alike (elements.Scalar k) (elements.Scalar l) (key_of k (writes c)) ≡ true → SeenEntry (old (presences.Map k)) k l c
+  pub key_seen : (k l : Scalar) → like (elements.Scalar k) (elements.Scalar l) ≡ true → (m : ℕ) → m < 2 ^ 64 → (c : Comparand) → Holds (old (presences.Map k)) c → EntryCosts (old (presences.Map k)) k m c → is_seen enum_view.alike (elements.Scalar k) (elements.Scalar l) (key_of k (writes c)) ≡ true → SeenEntry (old (presences.Map k)) k l c
   key_seen k l is_like m small c holds cost seen =
       let reads = bodies_read_again (elements.Scalar k) (key_of k (writes c)) (key_range k c holds.key_fits) in
       let entry = length-entry_bytes k e (key_of k (writes c)) c.written in

@@ -22,7 +22,7 @@ use Rattle.pg_pairs.proofs.lemmas.bounds.Fates.{field_fate}
 use Rattle.pg_pairs.proofs.lemmas.graph.Reaching.{every_is_among}
 
 -- a zero that is hidden is kept
-hidden_kept : (view : View) (child : Reader) (f g : FieldShape) (cs : List Comparand) → g.number ≡ f.number → PresenceFits g.presence g.element g.oneof → AllByRecursion (Holds f) cs → Hides f g cs → is_field_kept view child f g cs ≡ true
+pub hidden_kept : (view : View) (child : Reader) (f g : FieldShape) (cs : List Comparand) → g.number ≡ f.number → PresenceFits g.presence g.element g.oneof → AllByRecursion (Holds f) cs → Hides f g cs → is_field_kept view child f g cs ≡ true
 hidden_kept view child f g cs numbers fits_new holds hides =
     let fits : PresenceFits presences.Implicit g.element g.oneof = subst (λ q. PresenceFits q g.element g.oneof) hides.implicit fits_new in
     let held = leafy_item f.element hides.comparand hides.leafy (subst (AllByRecursion (Holds f)) hides.one holds).0.item in

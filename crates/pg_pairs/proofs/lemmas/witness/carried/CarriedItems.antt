@@ -39,7 +39,7 @@ like_message s (elements.Scalar t) h = absurd (cc)
 like_message s (elements.Enum t) h = absurd (cc)
 
 -- only leaves have gaps, and only messages have children
-gap_leafy : (enum_view : EnumView) (zero : Bool) (e d : Element) (item : Leaf) → gap_item enum_view zero e d ≡ Some item → IsLeafy e
+pub gap_leafy : (enum_view : EnumView) (zero : Bool) (e d : Element) (item : Leaf) → gap_item enum_view zero e d ≡ Some item → IsLeafy e
 gap_leafy enum_view zero (elements.Message s) d item h = absurd (cc)
 gap_leafy enum_view zero (elements.Scalar s) d item h = tt
 gap_leafy enum_view zero (elements.Enum s) d item h = tt

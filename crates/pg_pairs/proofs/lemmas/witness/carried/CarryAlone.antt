@@ -91,7 +91,7 @@ module _ (enum_view : EnumView) (old new : Shape) (shape_old : IsShape old) (sha
 -- Case 2: like leaves with a gap, a record for each item.
 
 -- an item that counts is shown, and the old field may hold it
-shown_at : (number : ℕ) (p q : Presence) (e d : Element) (o r : Option ℕ) (item : Leaf) → ItemCounts (zero_counts (record { number = number; presence = p; element = e; oneof = o }) (record { number = number; presence = q; element = d; oneof = r })) item → ((hides_zero (record { number = number; presence = p; element = e; oneof = o }) (record { number = number; presence = q; element = d; oneof = r }) && is_zero item) ≡ false) × MayBeZero p item
+pub shown_at : (number : ℕ) (p q : Presence) (e d : Element) (o r : Option ℕ) (item : Leaf) → ItemCounts (zero_counts (record { number = number; presence = p; element = e; oneof = o }) (record { number = number; presence = q; element = d; oneof = r })) item → ((hides_zero (record { number = number; presence = p; element = e; oneof = o }) (record { number = number; presence = q; element = d; oneof = r }) && is_zero item) ≡ false) × MayBeZero p item
 shown_at number presences.Implicit presences.Implicit e d o r item counts = (counts, counts)
 shown_at number presences.Implicit presences.Explicit e d o r item counts = (counts, counts)
 shown_at number presences.Implicit (presences.Repeated w) e d o r item counts = (refl, counts)
