@@ -2,7 +2,7 @@
 """Copies the sentence of each error from the crates' error types to where users read it, so that each error has one wording.
 
 usage: tools/docs/errors.py --write      writes the sentences into the tables of docs/ERRORS.md; and of these tables the list of errors in
-                                         docs/protogate.1, the table that examples/ci goes by (codes.py), and what pg_gate says with --json: the
+                                         docs/protogate.1, the table that examples/ci goes by (codes.py), and what pg_lines says with --json: the
                                          definition (Sentences.antt) and the code (sentences.rt)
        tools/docs/errors.py --compare    status 1 where one of these files isn't so
 
@@ -17,7 +17,7 @@ import sys
 
 TOP = os.path.dirname(os.path.dirname(os.path.dirname(os.path.realpath(__file__))))
 PAGE, MANUAL, TABLE = "docs/ERRORS.md", "docs/protogate.1", "examples/ci/codes.py"
-SPEC, CODE = "crates/pg_gate/specs/print/Sentences.antt", "crates/pg_gate/src/print/sentences.rt"
+SPEC, CODE = "crates/pg_lines/specs/Sentences.antt", "crates/pg_lines/src/sentences.rt"
 # What the list of the man page is between.
 BEGIN, END = '.\\" The list of errors is made by tools/docs/errors.py --write.\n', '.\\" The list of errors ends here.\n'
 HEAD = '''"""What each code means and what to do about it: made by `tools/docs/errors.py --write`, which says where to change it."""
@@ -32,7 +32,7 @@ use Rattle.pg_link.specs.names.Names.{Text}
 """
 CODE_HEAD = """//! The sentence of a code: made by tools/docs/errors.py --write of what the error types say.
 ghost use Rattle.std.specs.Prelude.{◌≡◌};
-ghost use Rattle.pg_gate.specs.print.Sentences as spec;
+ghost use Rattle.pg_lines.specs.Sentences as spec;
 
 """
 # What the codes of each hundred are of.
@@ -206,11 +206,11 @@ def code_of(found):
     text = CODE_HEAD
     for part, them in found.items():
         arms = "".join(arm(code, string(says)) for code, says in them.items())
-        text += f"#[tactic(auto, unfolding(crate::specs::print::Sentences::{PARTS[part]}_sentence))]\n"
+        text += f"#[tactic(auto, unfolding(crate::specs::Sentences::{PARTS[part]}_sentence))]\n"
         text += f"fn {PARTS[part]}_sentence(code: u16) -> &'static str\n    ensures {{ result.now ≡ spec.{PARTS[part]}_sentence code }}\n{{\n"
         text += f"    match code {{\n{arms}        _ => \"\",\n    }}\n}}\n\n"
     arms = "".join(arm(part, f"{PARTS[part]}_sentence(code)") for part in found)
-    text += "/// The sentence of a code that a refusal has.\n#[tactic(auto, unfolding(crate::specs::print::Sentences::sentence_of))]\npub(crate) fn sentence_of(code: u16) -> &'static str\n"
+    text += "/// The sentence of a code that a refusal has.\n#[tactic(auto, unfolding(crate::specs::Sentences::sentence_of))]\npub(crate) fn sentence_of(code: u16) -> &'static str\n"
     text += "    ensures { result.now ≡ spec.sentence_of code }\n{\n"
     return text + f"    match code / 100 {{\n{arms}        _ => \"\",\n    }}\n}}\n"
 

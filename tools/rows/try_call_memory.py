@@ -165,12 +165,12 @@ CALLS = [
     Rows("relay", "rows_view", ["what the new type lacks is handed on"], "relay"),
     Tests("notes", "tests_notes", ["tells_again"]),
     Tests("gate_files", "tests_gate", ["a_gate_over_files_answers_one_of_two", "a_gate_over_files_tells_the_old_side_first"]),
-    # The sink is left alone where `run` lacks memory, also where `matches_of` does, which it calls first.
-    Tests("run matches_of", "tests_gate", ["compiles_again", "shows_again", "verifies_again", "gates_in_both_directions_again",
-                                           "gates_a_oneof_again", "gates_all_types_again", "compiles_in_folders_again",
-                                           "names_types_of_a_set_in_folders_again", "names_types_of_a_list_again", "gates_all_types_of_lists_again",
-                                           "refuses_a_list_again", "refuses_a_list_without_files_again",
-                                           "refuses_a_side_without_files_again"]),
+    # The sink is left alone where `run` lacks memory, also where `matches_of` does, which it calls first, or what prints the lines.
+    Tests("run matches_of words_of json_of", "tests_gate",
+          ["compiles_again", "shows_again", "verifies_again", "gates_in_both_directions_again", "gates_a_oneof_again",
+           "gates_all_types_again", "gates_all_types_as_json_again", "compiles_in_folders_again",
+           "names_types_of_a_set_in_folders_again", "names_types_of_a_list_again", "gates_all_types_of_lists_again",
+           "refuses_a_list_again", "refuses_a_list_without_files_again", "refuses_a_side_without_files_again"]),
 ]
 
 

@@ -2,4 +2,3 @@ pub mod ErrorLemmas
 pub mod RelayLemmas
 pub mod RunLemmas
 pub mod answer
-pub mod print

@@ -7,7 +7,7 @@ use Rattle.pg_gate.specs.declared.call_error.CertificateFault.{CertificateFault}
 use Rattle.pg_gate.specs.declared.error.Fault.{Fault}
 use Rattle.pg_gate.specs.declared.error.GateError.{GateError}
 use Rattle.pg_gate.specs.declared.error.GateError.TheVariants as gates
-use Rattle.pg_gate.specs.declared.error.Side.{Side}
+use Rattle.pg_lines.specs.declared.side.Side.{Side}
 
 -- What an error says, by what each error would: of a missing root of either side, of an argument that spells no bytes,
 -- and of a fault of a side. Out of memory says nothing, and that the sink failed is no answer of a source.

@@ -1,11 +1,13 @@
 pub mod Folders
 pub mod Files
 pub mod Lists
+pub mod AnyOrder
 pub mod Answer
 pub mod ViewAnswer
 pub mod Steps
 pub mod Showing
 pub mod Notes
+pub mod TypeNames
 pub mod AllTypes
 pub mod Verified
 pub mod Grants

@@ -1,10 +1,4 @@
 pub mod Codes
 pub mod Refusals
-pub mod Text
-pub mod Notes
-pub mod Line
 pub mod Lines
-pub mod Sentences
-pub mod Json
 pub mod Printed
-pub mod Sink

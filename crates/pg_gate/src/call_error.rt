@@ -1,9 +1,9 @@
 //! Why a call has no answer.
 
 use crate::error::GateError;
-use crate::print::location::Location;
 use pg_cert::CertError;
 use pg_dyn::DynError;
+use pg_lines::Location;
 use std::alloc::{AllocError, AllocFailed};
 
 /// The code of a file that is not there.
@@ -11,13 +11,6 @@ const MISSING_FILE: u16 = 301;
 
 /// The code of a source that failed.
 pub(crate) const SOURCE_FAILED: u16 = 309;
-
-/// The full names of an old and a new message type.
-#[derive(Drop)]
-pub(crate) struct PairNames {
-    pub old: String,
-    pub new: String,
-}
 
 /// What a certificate's bytes are refused for, of two schemas.
 #[derive(Drop)]

@@ -1,20 +1,12 @@
 //! Why there is no answer.
 
-use crate::print::sink::SinkError;
 use pg_check::CheckError;
 use pg_fds::FdsError;
+use pg_lines::{Side, SinkError};
 use pg_link::{LinkError, Place};
 use pg_show::HexError;
 use std::alloc::{AllocError, AllocFailed};
-use std::fmt;
 use thiserror::Error;
-
-/// The old writer's schema, or the new reader's.
-#[derive(Clone, Copy, Debug, PartialEq, Eq)]
-pub enum Side {
-    Old,
-    New,
-}
 
 /// Why a side has no files to compile.
 #[derive(Debug, PartialEq, Eq, Drop, Error)]
@@ -118,20 +110,6 @@ impl GateError {
             GateError::Compile(_, fault) => fault.code(),
             GateError::WriteFailed => 904,
             GateError::BadHex => HexError::BadHex.code(),
-        }
-    }
-}
-
-impl fmt::Display for Side {
-    ghost use Rattle.std.specs.Prelude.{Some};
-    ghost use Rattle.pg_gate.specs.print.Text.{side_of};
-
-    ghost output = { λ it. Some (side_of it) };
-
-    fn fmt<W: fmt::Write>(&self, f: &mut fmt::Formatter<W>) -> fmt::Result {
-        match self {
-            Side::Old => write!(f, "old"),
-            Side::New => write!(f, "new"),
         }
     }
 }

@@ -2,7 +2,6 @@
 
 ghost use Rattle.pg_gate.specs.laws.Agreement.{AllSaysWhatGateSays};
 ghost use Rattle.pg_gate.specs.laws.InFolders.{FoldersInTurn};
-ghost use Rattle.pg_gate.specs.laws.WorkedJson.{WorkedJson};
 
 /// What `gate_all` says of a message type that both schemas declare is what `gate_with` says of it
 /// under the same view: that no message breaks, or how many bytes a shortest one has that does.
@@ -14,9 +13,4 @@ pub fn all_says_what_gate_says()
 /// folders the first that has a path gives it, and a path is lacked where each of them lacks it.
 pub fn folders_in_turn()
     ensures { FoldersInTurn }
-{}
-
-/// How small lines of each kind are printed as JSON.
-pub fn worked_json()
-    ensures { WorkedJson }
 {}

@@ -11,16 +11,14 @@ mod program;
 mod relaying;
 
 pub use answer::gate::{Answer, gate, gate_files, gate_with};
-pub use error::{Fault, GateError, ListError, Side};
+pub use error::{Fault, GateError, ListError};
 pub use pg_cert::Certificate;
 pub use pg_check::CheckError;
 pub use pg_dyn::{DynError, Message, ViewName};
 pub use pg_fds::FdsError;
+pub use pg_lines::{Buffer, Side, Sink, SinkError, StandardOutput, write_all};
 pub use pg_link::{LinkError, Listed, Place, SourceError, Sources};
 pub use pg_pairs::Pair;
 pub use pg_schema::Schema;
-pub use print::buffer::Buffer;
-pub use print::sink::{Sink, SinkError, write_all};
-pub use print::standard_output::StandardOutput;
 pub use program::run;
 pub use relaying::relay;

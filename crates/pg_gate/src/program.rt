@@ -10,9 +10,9 @@ ghost use Rattle.pg_gate.specs.Run.{Begins, IsRunError, Keeps, MayLack, Prints, 
 use crate::answer::dispatch::answer;
 use crate::error::GateError;
 use crate::print::refusal::USAGE;
-use crate::print::sink::{Sink, write_all};
 use clap::error::ErrorKind;
 use pg_call::{Call, call_of, matches_of};
+use pg_lines::{Sink, write_all};
 use pg_link::Sources;
 use std::alloc::Global;
 

@@ -1,11 +1,11 @@
-//! The promises of `pg_gate`'s sinks, said again of calls of it: the edits of `must-fail` turn each
+//! The promises of `pg_lines`'s sinks, said again of calls of it: the edits of `must-fail` turn each
 //! answer, and every one must be refused.
 #![tactic(auto)]
 
 ghost use Rattle.std.specs.Prelude.{◌≡◌, ◌+◌, ◌++◌, ◌<◌, ◌≤◌, [], ℕ, length, take, IfOk, OnErr, OnOk};
-ghost use Rattle.pg_gate.specs.print.Sink.{failures_in, taken_of};
+ghost use Rattle.pg_lines.specs.Sink.{failures_in, taken_of};
 
-use pg_gate::{Buffer, Sink, SinkError, StandardOutput};
+use pg_lines::{Buffer, Sink, SinkError, StandardOutput};
 use std::alloc::Global;
 
 /// What `write_all` does.
@@ -15,7 +15,7 @@ pub fn write_all<W: Sink>(sink: &mut W, bytes: &[u8]) -> Result<(), SinkError>
         × (W.taken sink.new ≡ W.taken sink.old ++ take n bytes.now)) }
     ensures counted { W.failures sink.new ≡ W.failures sink.old + failures_in result }
 {
-    pg_gate::write_all(sink, bytes)
+    pg_lines::write_all(sink, bytes)
 }
 
 /// What `Buffer::new` answers.

@@ -138,6 +138,13 @@ fn gates_all_types_again(rt: HostRuntime) -> Result<(), Fail> {
 }
 
 #[test]
+fn gates_all_types_as_json_again(rt: HostRuntime) -> Result<(), Fail> {
+    let (words, printed, status) = CALLS[17];
+    assert!(rt; runs_again(&rt, words, printed, status)?);
+    Ok(())
+}
+
+#[test]
 fn names_types_of_a_list_again(rt: HostRuntime) -> Result<(), Fail> {
     let (words, printed, status) = CALLS[22];
     assert!(rt; runs_again(&rt, words, printed, status)?);

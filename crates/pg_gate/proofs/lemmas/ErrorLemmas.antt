@@ -10,8 +10,8 @@ use Rattle.pg_gate.specs.declared.call_error.CertificateFault.{CertificateFault}
 use Rattle.pg_gate.specs.declared.error.Fault.{Fault}
 use Rattle.pg_gate.specs.declared.error.GateError.{GateError}
 use Rattle.pg_gate.specs.declared.error.GateError.TheVariants as gates
-use Rattle.pg_gate.specs.declared.error.Side.{Side}
-use Rattle.pg_gate.specs.declared.error.Side.TheVariants as sides
+use Rattle.pg_lines.specs.declared.side.Side.{Side}
+use Rattle.pg_lines.specs.declared.side.Side.TheVariants as sides
 
 -- ---- what errors say
 

@@ -4,6 +4,7 @@ pub mod CauseLemmas
 pub mod Cursors
 pub mod Ranges
 pub mod Roots
+pub mod SetLemmas
 pub mod ShowLemmas
 pub mod SourceLemmas
 pub mod VerifyLemmas

@@ -14,18 +14,21 @@ use Rattle.pg_pairs.specs.views.EnumView.{EnumView, by_numbers}
 use Rattle.pg_cert.specs.Certificate.{bound_in, Claim, Holds}
 use Rattle.pg_least.specs.Searched.{IsSearched}
 use Rattle.pg_least.specs.Loss.{IsLost, NewSees, OldWrites, AreRoots, Lacks}
+use Rattle.pg_gate.specs.answer.AnyOrder.{NoneUnseenShorter, SeenInAnyOrder}
 use Rattle.pg_gate.specs.declared.answer.gate.Answer.{Answer}
 use Rattle.pg_gate.specs.declared.answer.gate.Answer.TheVariants as answers
 use Rattle.pg_gate.specs.declared.error.GateError.{GateError}
 use Rattle.pg_gate.specs.declared.error.GateError.TheVariants as errors
 
--- No message breaks: the new reader reads each message whole that the old writer encodes. The certificate is that of
+-- No message breaks: the new reader reads each message whole that the old writer encodes, in whatever order this one
+-- writes its fields and the entries of its maps. The certificate is that of
 -- the root types, and it passes the checker; each bound in it is least. The root's bound in it is 'none', and there
 -- is no witness.
 pub record IsCompatible (enum_view : EnumView) (old new : Parts) (root : List ℕ) (certificate : Claim) : Type 0 where
   pub roots : AreRoots old new root certificate.root
   pub each_is_seen : (message : Message) → OldWrites (shape_of old) certificate.root message
       → NewSees enum_view.alike (shape_of old) (shape_of new) certificate.root message
+  pub in_any_order : SeenInAnyOrder enum_view.alike (shape_of old) (shape_of new) certificate.root
   pub passes : Holds enum_view (shape_of old) (shape_of new) certificate
   pub searched : IsSearched enum_view (shape_of old) (shape_of new) certificate.root certificate
   pub bound_is_none : bound_in certificate.bounds certificate.root ≡ Some None
@@ -33,8 +36,8 @@ pub record IsCompatible (enum_view : EnumView) (old new : Parts) (root : List �
   pub compatible : Compatible enum_view.alike (shape_of old) (shape_of new) certificate.root.old certificate.root.new
 
 -- The witness is a message of the old root type, without unknown records, and it breaks: the new reader doesn't read
--- it whole. No message that the old writer encodes and the new reader doesn't read whole has fewer bytes. The
--- certificate is that of the root types, and it passes the checker; each bound in it is least. It has the witness's
+-- it whole. No message that the old writer encodes and the new reader doesn't read whole has fewer bytes, in whatever
+-- order they are written. The certificate is that of the root types, and it passes the checker; each bound in it is least. It has the witness's
 -- bytes.
 pub record IsBroken (enum_view : EnumView) (old new : Parts) (root : List ℕ) (witness : Kept) (certificate : Claim)
     : Type 0 where
@@ -45,6 +48,8 @@ pub record IsBroken (enum_view : EnumView) (old new : Parts) (root : List ℕ) (
   pub none_shorter : (message : Message) → IsLost enum_view.alike (shape_of old) (shape_of new) certificate.root message
       → length (enc (shape_of old) certificate.root.old (message_of witness))
       ≤ length (enc (shape_of old) certificate.root.old message)
+  pub in_any_order : NoneUnseenShorter enum_view.alike (shape_of old) (shape_of new) certificate.root
+      (length (enc (shape_of old) certificate.root.old (message_of witness)))
   pub passes : Holds enum_view (shape_of old) (shape_of new) certificate
   pub searched : IsSearched enum_view (shape_of old) (shape_of new) certificate.root certificate
   pub breaks : Breaks enum_view.alike (shape_of old) (shape_of new) certificate.root.old certificate.root.new

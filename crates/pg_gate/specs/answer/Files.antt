@@ -25,7 +25,7 @@ use Rattle.pg_gate.specs.Errors.{IsError}
 use Rattle.pg_gate.specs.declared.error.Fault.{Fault}
 use Rattle.pg_gate.specs.declared.error.Fault.TheVariants as faults
 use Rattle.pg_gate.specs.declared.error.GateError.{GateError}
-use Rattle.pg_gate.specs.declared.error.Side.{Side}
+use Rattle.pg_lines.specs.declared.side.Side.{Side}
 use Rattle.pg_schema.specs.declared.parts.Parts.{Parts}
 use Rattle.pg_schema.specs.rules.Sound.{IsSound}
 

@@ -27,7 +27,7 @@ use Rattle.pg_gate.specs.declared.answer.gate.Answer.{Answer}
 use Rattle.pg_gate.specs.print.Refusals.{refusal_for}
 use Rattle.pg_gate.specs.answer.Showing.{IsBadWord, IsExplained, IsRefusedWord, IsShown}
 use Rattle.pg_gate.specs.answer.Steps.{AreSteps}
-use Rattle.pg_gate.specs.print.Text.{ListsTypes}
+use Rattle.pg_gate.specs.answer.TypeNames.{ListsTypes}
 use Rattle.pg_gate.specs.answer.Verified.{IsClaimFault, IsHeldBy}
 use Rattle.pg_gate.specs.answer.ViewAnswer.{IsAnswerUnder}
 use Rattle.pg_gate.specs.declared.call_error.CallError.{CallError}
@@ -35,15 +35,15 @@ use Rattle.pg_gate.specs.declared.call_error.CertificateFault.{CertificateFault}
 use Rattle.pg_gate.specs.declared.call_error.CertificateFault.TheVariants as certificates
 use Rattle.pg_gate.specs.declared.error.Fault.{Fault}
 use Rattle.pg_gate.specs.declared.error.GateError.{GateError}
-use Rattle.pg_gate.specs.declared.error.Side.{Side}
-use Rattle.pg_gate.specs.declared.error.Side.TheVariants as sides
-use Rattle.pg_gate.specs.declared.print.refusal.Refusal.{Refusal}
+use Rattle.pg_lines.specs.declared.side.Side.{Side}
+use Rattle.pg_lines.specs.declared.side.Side.TheVariants as sides
+use Rattle.pg_lines.specs.declared.refusal.Refusal.{Refusal}
 use Rattle.pg_gate.specs.declared.print.reply.Finding.{Finding}
 use Rattle.pg_gate.specs.declared.print.reply.Finding.TheVariants as findings
 use Rattle.pg_gate.specs.declared.print.reply.Readings.{Readings}
 use Rattle.pg_gate.specs.declared.print.reply.Reply.{Reply}
 use Rattle.pg_gate.specs.declared.print.reply.Reply.TheVariants as replies
-use Rattle.pg_gate.specs.declared.answer.step.Step.{Step}
+use Rattle.pg_lines.specs.declared.step.Step.{Step}
 
 -- ---- sides
 

@@ -17,8 +17,8 @@ use Rattle.pg_schema.specs.declared.parts.service.ServiceId.{ServiceId}
 use Rattle.pg_gate.specs.answer.Steps.{field_name}
 use Rattle.pg_gate.specs.declared.answer.member.Member.{Member}
 use Rattle.pg_gate.specs.declared.answer.member.Member.TheVariants as members
-use Rattle.pg_gate.specs.declared.answer.noting.PlacedNote.{PlacedNote}
-use Rattle.pg_gate.specs.declared.answer.step.NamedField.{NamedField}
+use Rattle.pg_lines.specs.declared.note.PlacedNote.{PlacedNote}
+use Rattle.pg_lines.specs.declared.step.NamedField.{NamedField}
 
 -- ---- what a note names
 

@@ -13,7 +13,7 @@ use Rattle.pg_show.specs.Shown.{Refuses, Shows, most_levels, names_of}
 use Rattle.pg_least.specs.Loss.{IsNamed, Lacks}
 use Rattle.pg_pairs.specs.declared.choices.choice.Pair.{Pair}
 use Rattle.pg_gate.specs.print.Refusals.{refusal_of_bytes}
-use Rattle.pg_gate.specs.print.Text.{refusal_of}
+use Rattle.pg_lines.specs.Text.{refusal_of}
 use Rattle.pg_gate.specs.declared.print.reply.Readings.{Readings}
 
 -- the output is that of the message that the bytes are read as by the type, and no message in it is too deep

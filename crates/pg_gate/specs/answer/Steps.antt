@@ -16,7 +16,7 @@ use Rattle.pg_schema.specs.declared.parts.field.TypeId.{TypeId}
 use Rattle.pg_schema.specs.declared.parts.Parts.{Parts}
 use Rattle.pg_schema.specs.Lookups.{field_of}
 use Rattle.pg_schema.specs.Parts.{shape_of}
-use Rattle.pg_gate.specs.declared.answer.step.Step.{Step}
+use Rattle.pg_lines.specs.declared.step.Step.{Step}
 
 -- a field by its number, and by its full names in the old and in the new type
 pub record NamedStep : Type 0 where

@@ -12,9 +12,9 @@ use Rattle.pg_pairs.specs.declared.choices.choice.Pair.{Pair}
 use Rattle.pg_schema.specs.declared.parts.Parts.{Parts}
 use Rattle.pg_least.specs.Loss.{IsNamed}
 use Rattle.pg_gate.specs.declared.call_error.ClaimFault.{ClaimFault}
-use Rattle.pg_gate.specs.declared.call_error.PairNames.{PairNames}
-use Rattle.pg_gate.specs.declared.print.location.Location.{Location}
-use Rattle.pg_gate.specs.declared.print.location.Location.TheVariants as locations
+use Rattle.pg_lines.specs.declared.location.PairNames.{PairNames}
+use Rattle.pg_lines.specs.declared.location.Location.{Location}
+use Rattle.pg_lines.specs.declared.location.Location.TheVariants as locations
 use Rattle.pg_gate.specs.declared.print.reply.Finding.{Finding}
 use Rattle.pg_gate.specs.declared.print.reply.Finding.TheVariants as findings
 use Rattle.pg_gate.specs.declared.answer.verified.Verified.{Verified}

@@ -1,18 +1,20 @@
 -- Which lines an answer has.
-use Rattle.std.specs.Prelude.{ℕ, List, [], ◌∷◌, ◌++◌, map, Option, Some, None, String, length, string_bytes}
+use Rattle.std.specs.Prelude.{ℕ, List, [], ◌∷◌, ◌++◌, map, Option, Some, None, String, codes, length, string_bytes}
 use Rattle.std.specs.Global.{Global}
 use Rattle.std.specs.List.{flat_map}
+use Rattle.pg_causes.specs.declared.overview.Reason.{Reason}
+use Rattle.pg_causes.specs.declared.overview.Reason.TheVariants as reasons
 use Rattle.pg_causes.specs.declared.overview.TypeLine.{TypeLine}
 use Rattle.pg_cert.specs.declared.verdict.Verdict.{Verdict}
 use Rattle.pg_cert.specs.declared.verdict.Verdict.TheVariants as verdicts
 use Rattle.pg_link.specs.names.Names.{Text}
-use Rattle.pg_gate.specs.print.Line.{Line, backward, bound, breaks, cause, certificate, compatible, forward, name, note, reading, refused, shown, step, witness}
+use Rattle.pg_lines.specs.Line.{Cause, Line, backward, bound, breaks, cause, certificate, compatible, forward, name, note, reading, refused, shown, step, witness}
 use Rattle.pg_gate.specs.declared.answer.all_types.AllTypes.{AllTypes}
 use Rattle.pg_gate.specs.declared.answer.all_types.PlacedCause.{PlacedCause}
 use Rattle.pg_gate.specs.declared.answer.verified.Verified.{Verified}
-use Rattle.pg_gate.specs.declared.error.Side.TheVariants as sides
-use Rattle.pg_gate.specs.declared.print.line.Listed.{Listed}
-use Rattle.pg_gate.specs.declared.print.line.Listed.TheVariants as listed
+use Rattle.pg_lines.specs.declared.side.Side.TheVariants as sides
+use Rattle.pg_lines.specs.declared.line.Listed.{Listed}
+use Rattle.pg_lines.specs.declared.line.Listed.TheVariants as listed
 use Rattle.pg_gate.specs.declared.print.reply.Finding.{Finding}
 use Rattle.pg_gate.specs.declared.print.reply.Finding.TheVariants as finding
 use Rattle.pg_gate.specs.declared.print.reply.Readings.{Readings}
@@ -46,8 +48,27 @@ abbrev pub both_lines : Text → Finding → Finding → List Line
 both_lines root one other =
     forward ∷ (finding_lines root one ++ (backward ∷ finding_lines root other))
 
+abbrev pub reason_word : Reason → Text
+reason_word reasons.Unlike = codes "unlike"
+reason_word reasons.Value = codes "value"
+reason_word reasons.Name = codes "name"
+reason_word reasons.ListToOne = codes "list-to-one"
+reason_word reasons.Map = codes "map"
+reason_word reasons.MapKey = codes "map-key"
+reason_word reasons.MapValue = codes "map-value"
+reason_word reasons.Oneof = codes "oneof"
+
+-- a cause as it is printed: by its word
+abbrev pub plain_cause : PlacedCause → Cause
+plain_cause c = record {
+  why = reason_word c.cause.reason;
+  message = c.cause.message.items;
+  field = c.field;
+  others = c.others.items;
+}
+
 abbrev pub cause_lines : PlacedCause → List Line
-cause_lines c = cause c ∷ readings_lines c.readings
+cause_lines c = cause (plain_cause c) ∷ readings_lines c.readings
 
 abbrev pub type_line : Text → Option ℕ → Line
 type_line type None = compatible type

@@ -5,11 +5,11 @@ use Rattle.pg_link.specs.names.Names.{Text}
 use Rattle.pg_cert.specs.declared.verdict.Verdict.{Verdict}
 use Rattle.pg_cert.specs.declared.verdict.Verdict.TheVariants as verdicts
 use Rattle.pg_call.specs.Call.{Request, compile, gate, gate_all, show, types, verify}
-use Rattle.pg_gate.specs.print.Json.{json_of}
-use Rattle.pg_gate.specs.print.Line.{words_of}
+use Rattle.pg_lines.specs.Json.{json_of}
+use Rattle.pg_lines.specs.Line.{words_of}
 use Rattle.pg_gate.specs.print.Lines.{lines_of}
 use Rattle.pg_gate.specs.declared.answer.all_types.AllTypes.{AllTypes}
-use Rattle.pg_gate.specs.declared.print.refusal.Refusal.{Refusal}
+use Rattle.pg_lines.specs.declared.refusal.Refusal.{Refusal}
 use Rattle.pg_gate.specs.declared.print.reply.Finding.{Finding}
 use Rattle.pg_gate.specs.declared.print.reply.Finding.TheVariants as finding
 use Rattle.pg_gate.specs.declared.print.reply.Reply.{Reply}

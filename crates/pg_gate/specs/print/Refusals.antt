@@ -18,10 +18,10 @@ use Rattle.pg_gate.specs.declared.error.ListError.{ListError}
 use Rattle.pg_gate.specs.declared.error.ListError.TheVariants as lists
 use Rattle.pg_gate.specs.declared.error.GateError.{GateError}
 use Rattle.pg_gate.specs.declared.error.GateError.TheVariants.{Memory, RootMissingOld, RootMissingNew, Compile, WriteFailed, BadHex}
-use Rattle.pg_gate.specs.declared.error.Side.{Side}
-use Rattle.pg_gate.specs.declared.print.location.Location.{Location}
-use Rattle.pg_gate.specs.declared.print.location.Location.TheVariants.{Nowhere, InPlace, InFile, AtByte}
-use Rattle.pg_gate.specs.declared.print.refusal.Refusal.{Refusal}
+use Rattle.pg_lines.specs.declared.side.Side.{Side}
+use Rattle.pg_lines.specs.declared.location.Location.{Location}
+use Rattle.pg_lines.specs.declared.location.Location.TheVariants.{Nowhere, InPlace, InFile, AtByte}
+use Rattle.pg_lines.specs.declared.refusal.Refusal.{Refusal}
 
 -- ---- positions
 

@@ -2,10 +2,9 @@
 ghost use Rattle.std.specs.Prelude.{◌≡◌};
 ghost use Rattle.pg_gate.specs.print.Printed.{all_status};
 
-use crate::answer::noting::PlacedNote;
-use crate::answer::step::Step;
 use crate::print::reply::Readings;
 use pg_causes::{Cause, TypeLine};
+use pg_lines::{PlacedNote, Step};
 
 /// A cause with the field that breaks; where fields meet in a oneof, the first of them, with the
 /// others in rising number. On request, it has its message as both sides read it.

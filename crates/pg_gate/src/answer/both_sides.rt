@@ -8,8 +8,9 @@ ghost use Rattle.pg_link.specs.walk.Reads.{Reads};
 ghost use Rattle.pg_gate.specs.inner.Sources.{world_of};
 
 use crate::answer::compile::{Compiled, compile_files};
-use crate::error::{GateError, Side};
+use crate::error::GateError;
 use pg_call::BothFiles;
+use pg_lines::Side;
 use pg_link::Sources;
 use std::alloc::Global;
 

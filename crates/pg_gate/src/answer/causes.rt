@@ -11,11 +11,11 @@ use crate::answer::both_sides::BothSides;
 use crate::answer::compile::Compiled;
 use crate::answer::explaining::{Broken, explained};
 use crate::answer::noting::noted;
-use crate::answer::step::Step;
 use crate::answer::stepping::{PlacedSchemas, placed_schemas, step_of};
 use pg_call::GateAllCall;
 use pg_causes::{Cause, Overview, gate_all};
 use pg_least::PairChoice;
+use pg_lines::Step;
 use pg_pairs::Pair;
 use std::alloc::{AllocError, Global};
 

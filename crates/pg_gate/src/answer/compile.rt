@@ -13,9 +13,10 @@ ghost use Rattle.pg_gate.specs.inner.Faults.{IsOfLink, IsOfRules};
 
 use crate::answer::folders::link_including;
 use crate::answer::sets::{read_set, set_at};
-use crate::error::{Fault, GateError, Side};
+use crate::error::{Fault, GateError};
 use pg_call::Files;
 use pg_check::{CheckError, build};
+use pg_lines::Side;
 use pg_link::{LinkError, Linked, Sources};
 use pg_schema::Schema;
 use std::alloc::Global;

@@ -4,11 +4,12 @@ ghost use Rattle.pg_cert.specs.Text.{IsPairOf};
 ghost use Rattle.pg_schema.specs.Parts.{shape_of};
 ghost use Rattle.pg_gate.specs.answer.Showing.{AreReadings, IsExplained, IsReading};
 ghost use Rattle.pg_gate.specs.print.Refusals as refusals;
-ghost use Rattle.pg_gate.specs.print.Text as spec;
+ghost use Rattle.pg_lines.specs.Text as spec;
 
-use crate::print::refusal::{Refusal, refusal_of_bytes};
+use crate::print::refusal::refusal_of_bytes;
 use crate::print::reply::Readings;
 use pg_dyn::DynError;
+use pg_lines::Refusal;
 use pg_pairs::Pair;
 use pg_schema::{Schema, TypeId};
 use pg_show::show;

@@ -1,6 +1,7 @@
 //! The gate: whether a reader of the new type reads all that a writer of the old one writes.
-ghost use Rattle.std.specs.Prelude.{◌≡◌, ◌+◌, Err, codes, IfErr, IfOk};
+ghost use Rattle.std.specs.Prelude.{◌≡◌, ◌+◌, Err, codes, IfErr, IfOk, OnOk};
 ghost use Rattle.pg_schema.specs.Parts.{shape_of};
+ghost use Rattle.pg_schema.specs.ShapeRules.{IsShape};
 ghost use Rattle.pg_pairs.specs.views.EnumView.{by_numbers};
 ghost use Rattle.pg_pairs.specs.views.NamedView.{seen_under};
 ghost use Rattle.pg_least.specs.Searched.{CarriesWitness};
@@ -14,11 +15,12 @@ ghost use Rattle.pg_gate.specs.declared.error.GateError.TheVariants as errors;
 ghost use Rattle.pg_link.specs.walk.Walk.{world};
 
 use crate::answer::both_sides::compile_both;
-use crate::error::{GateError, Side};
+use crate::error::GateError;
 use pg_call::{BothFiles, Files};
 use pg_cert::Certificate;
 use pg_dyn::{Message, ViewName};
 use pg_least::{Found, find_with};
+use pg_lines::Side;
 use pg_link::Sources;
 use pg_pairs::laws::numbers_are_alike;
 use pg_pairs::{Pair, Priced};
@@ -54,6 +56,7 @@ impl Answer {
 /// The old and the new message type of the full name.
 fn roots(old: &Schema, new: &Schema, root: &str) -> Result<Pair, GateError>
     ensures named { IfOk result (AreRoots old.now new.now root.now) }
+    ensures shapes { OnOk result (IsShape (shape_of old.now) × IsShape (shape_of new.now)) }
     ensures old_missing { Lacks old.now root.now → result ≡ Err errors.RootMissingOld }
     ensures new_missing { (Lacks old.now root.now → ⊥) → Lacks new.now root.now
         → result ≡ Err errors.RootMissingNew }
@@ -65,6 +68,9 @@ fn roots(old: &Schema, new: &Schema, root: &str) -> Result<Pair, GateError>
     let Some(new_root) = new.message(root) else {
         return Err(GateError::RootMissingNew);
     };
+    // What holds of every schema.
+    old.parts();
+    new.parts();
     Ok(Pair {
         old: old_root,
         new: new_root,

@@ -6,15 +6,16 @@ ghost use Rattle.pg_gate.specs.Failures.{side_failures};
 ghost use Rattle.pg_gate.specs.answer.AllTypes.{IsAllTypes};
 ghost use Rattle.pg_gate.specs.answer.Files.{IsErrorOf, IsFaultOfSet, IsFaultOfSide, IsSetOf};
 ghost use Rattle.pg_gate.specs.answer.Grants.{Between, IsAllError, IsListedFault, Listed, OfSide, seen};
-ghost use Rattle.pg_gate.specs.print.Text.{ListsTypes};
+ghost use Rattle.pg_gate.specs.answer.TypeNames.{ListsTypes};
 
 use crate::answer::all_types::AllTypes;
 use crate::answer::dispatch::find_all;
 use crate::answer::lists::{all_paths, at_paths, copied, list_of};
 use crate::answer::type_names::type_names;
-use crate::error::{GateError, Side};
-use crate::print::writing::written;
+use crate::answer::writing::written;
+use crate::error::GateError;
 use pg_call::{BothFiles, Files, GateAllCall};
+use pg_lines::Side;
 use pg_link::Sources;
 use std::alloc::Global;
 

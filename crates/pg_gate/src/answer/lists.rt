@@ -7,8 +7,9 @@ ghost use Rattle.pg_gate.specs.answer.Files.{IsErrorOf};
 ghost use Rattle.pg_gate.specs.answer.Lists as spec;
 ghost use Rattle.pg_gate.specs.inner.Lists as inner;
 
-use crate::error::{Fault, GateError, ListError, Side};
+use crate::error::{Fault, GateError, ListError};
 use pg_call::Files;
+use pg_lines::Side;
 use pg_link::{LinkError, Place, Sources, place_in, read_file};
 use std::alloc::{AllocError, Global};
 

@@ -4,23 +4,12 @@ ghost use Rattle.pg_gate.specs.answer.Notes as spec;
 
 use crate::answer::compile::Compiled;
 use crate::answer::member::{Member, member_name, new_member, number_of, old_member};
-use crate::answer::step::NamedField;
 use crate::answer::stepping::{PlacedSchema, PlacedSchemas, place_of, placed_schema};
 use crate::answer::wanted::Wanted;
+use pg_lines::{NamedField, PlacedNote};
 use pg_notes::{Note, notes};
 use pg_schema::Schema;
 use std::alloc::{AllocError, Global};
-
-/// A change that is noted, with what it names on both sides.
-#[derive(Drop)]
-pub(crate) struct PlacedNote {
-    pub note: Note,
-    /// The number of the old field or value. `None` of a method.
-    pub number: Option<i64>,
-    pub old: NamedField,
-    /// `None` of what is gone.
-    pub new: Option<NamedField>,
-}
 
 /// The member of a side.
 fn named_member(

@@ -10,9 +10,10 @@ ghost use Rattle.pg_gate.specs.inner.Sources.{world_of};
 ghost use Rattle.pg_gate.specs.inner.Faults.{IsFaultOfBytes, IsGivenFault};
 
 use crate::answer::folders::read_including;
-use crate::error::{Fault, GateError, Side};
+use crate::error::{Fault, GateError};
 use pg_call::Files;
 use pg_fds::{FdsError, read};
+use pg_lines::Side;
 use pg_link::{LinkError, Sources};
 use pg_schema::Schema;
 use std::alloc::Global;

@@ -12,9 +12,10 @@ ghost use Rattle.pg_gate.specs.inner.Showing.{IsShowFault, IsUnread, IsUnspelled
 
 use crate::answer::compile::compile_files;
 use crate::call_error::CallError;
-use crate::error::{GateError, Side};
+use crate::error::GateError;
 use pg_call::ShowCall;
 use pg_dyn::DynError;
+use pg_lines::Side;
 use pg_link::Sources;
 use pg_schema::{Schema, TypeId};
 use pg_show::{HexError, bytes_of_hex, show};

@@ -6,11 +6,12 @@ ghost use Rattle.pg_gate.specs.answer.Files.{IsSideError};
 ghost use Rattle.pg_gate.specs.answer.Grants.{OfSide};
 ghost use Rattle.pg_link.specs.walk.Reads.{Reads};
 ghost use Rattle.pg_gate.specs.inner.Sources.{world_of};
-ghost use Rattle.pg_gate.specs.print.Text.{ListsTypes};
+ghost use Rattle.pg_gate.specs.answer.TypeNames.{ListsTypes};
 
 use crate::answer::compile::compile_files;
-use crate::error::{GateError, Side};
+use crate::error::GateError;
 use pg_call::Files;
+use pg_lines::Side;
 use pg_link::Sources;
 use pg_schema::Schema;
 use std::alloc::{AllocError, Global};

@@ -13,12 +13,12 @@ ghost use Rattle.pg_gate.specs.inner.Claims.{IsClaimError, IsClaimRefusal, IsFou
 
 use crate::answer::both_sides::{BothSides, compile_both};
 use crate::answer::verified::Verified;
-use crate::call_error::{CallError, CertificateFault, ClaimFault, PairNames};
-use crate::error::{GateError, Side};
-use crate::print::location::Location;
+use crate::call_error::{CallError, CertificateFault, ClaimFault};
+use crate::error::GateError;
 use crate::print::reply::Finding;
 use pg_call::BothFiles;
 use pg_cert::{CertError, Certificate, Verdict, check, from_text};
+use pg_lines::{Location, PairNames, Side};
 use pg_link::{SourceError, Sources};
 use pg_pairs::Pair;
 use pg_schema::{Schema, TypeId};

@@ -1,22 +1,17 @@
-//! Which lines an answer has, and its output.
+//! Which lines an answer has, and how they are printed.
 ghost use Rattle.std.specs.Prelude.{◌≡◌, ◌++◌, IfOk, OnOk, map, string_bytes};
 ghost use Rattle.std.specs.List.{flat_map};
-ghost use Rattle.pg_gate.specs.print.Json.{json_of};
-ghost use Rattle.pg_gate.specs.print.Line.{line_of, lines_in, note, step, words_of};
+ghost use Rattle.pg_lines.specs.Json.{json_of};
+ghost use Rattle.pg_lines.specs.Line.{cause_in, line_of, lines_in, note, step, words_of};
 ghost use Rattle.pg_gate.specs.print.Lines as spec;
 
 use crate::answer::all_types::{AllTypes, PlacedCause};
-use crate::answer::noting::PlacedNote;
-use crate::answer::step::Step;
 use crate::answer::verified::Verified;
-use crate::error::Side;
-use crate::print::json::Json;
-use crate::print::line::{Line, Listed};
 use crate::print::reply::{Finding, Readings, Reply};
-use pg_causes::TypeLine;
+use pg_causes::{Reason, TypeLine};
 use pg_cert::Verdict;
+use pg_lines::{Line, Listed, PlacedNote, PlainCause, Side, Step, json_of, words_of};
 use std::alloc::{AllocError, Global};
-use std::fmt::Write;
 
 /// Adds the lines of the fields on a witness's path.
 fn add_steps<'a>(lines: &mut Vec<Line<'a>>, steps: &'a [Step]) -> Result<(), AllocError>
@@ -109,13 +104,41 @@ fn add_both<'a>(
     add_finding(lines, root, backward)
 }
 
+/// The word of a reason.
+fn reason_word(reason: Reason) -> &'static str
+    ensures { result.now ≡ spec.reason_word reason }
+{
+    match reason {
+        Reason::Unlike => "unlike",
+        Reason::Value => "value",
+        Reason::Name => "name",
+        Reason::ListToOne => "list-to-one",
+        Reason::Map => "map",
+        Reason::MapKey => "map-key",
+        Reason::MapValue => "map-value",
+        Reason::Oneof => "oneof",
+    }
+}
+
+/// A cause, as it is printed.
+fn plain_cause(placed: &PlacedCause) -> PlainCause<'_>
+    ensures { cause_in result ≡ spec.plain_cause placed.now }
+{
+    PlainCause {
+        why: reason_word(placed.cause.reason),
+        message: &placed.cause.message,
+        field: &placed.field,
+        others: &placed.others,
+    }
+}
+
 /// Adds each cause, with its readings.
 fn add_causes<'a>(lines: &mut Vec<Line<'a>>, causes: &'a [PlacedCause]) -> Result<(), AllocError>
     ensures { OnOk result (lines_in lines.new.items
         ≡ lines_in lines.old.items ++ flat_map spec.cause_lines causes.now) }
 {
     for cause in causes {
-        lines.push(Line::Cause(cause))?;
+        lines.push(Line::Cause(plain_cause(cause)))?;
         add_readings(lines, &cause.readings)?;
     }
     Ok(())
@@ -201,36 +224,13 @@ fn lines_of<'a>(alloc: Global, root: &'a str, reply: &'a Reply) -> Result<Vec<Li
     Ok(lines)
 }
 
-/// The lines in words.
-fn words(alloc: Global, lines: &[Line<'_>]) -> Result<String, AllocError>
-    ensures { IfOk result (λ text. string_bytes text ≡ flat_map words_of (lines_in lines.now)) }
-{
-    let mut text = String::new(alloc);
-    for line in lines {
-        write!(text, "{line}")?;
-    }
-    Ok(text)
-}
-
 /// The words of a reply's lines, for the root types of this name.
 pub(crate) fn words_for(alloc: Global, root: &str, reply: &Reply) -> Result<String, AllocError>
     ensures { IfOk result (λ text. string_bytes text
         ≡ flat_map words_of (spec.lines_of root.now reply.now)) }
 {
     let lines = lines_of(alloc, root, reply)?;
-    words(alloc, &lines)
-}
-
-/// The lines as JSON.
-fn json(alloc: Global, lines: &[Line<'_>]) -> Result<String, AllocError>
-    ensures { IfOk result (λ text. string_bytes text ≡ flat_map json_of (lines_in lines.now)) }
-{
-    let mut text = String::new(alloc);
-    for line in lines {
-        let line = Json(line);
-        writeln!(text, "{line}")?;
-    }
-    Ok(text)
+    words_of(alloc, &lines)
 }
 
 /// A reply's lines as JSON, for the root types of this name.
@@ -239,5 +239,5 @@ pub(crate) fn json_for(alloc: Global, root: &str, reply: &Reply) -> Result<Strin
         ≡ flat_map json_of (spec.lines_of root.now reply.now)) }
 {
     let lines = lines_of(alloc, root, reply)?;
-    json(alloc, &lines)
+    json_of(alloc, &lines)
 }

@@ -1,33 +1,11 @@
 //! Where a fault is.
-ghost use Rattle.std.specs.Prelude.{◌≡◌, Some};
+ghost use Rattle.std.specs.Prelude.{◌≡◌};
 ghost use Rattle.pg_gate.specs.print.Refusals as refusals;
-ghost use Rattle.pg_gate.specs.print.Text as spec;
 
-use crate::call_error::{CertificateFault, PairNames};
+use crate::call_error::CertificateFault;
 use crate::error::{Fault, ListError};
+use pg_lines::Location;
 use pg_link::Place;
-use std::fmt;
-
-/// Where a fault is.
-#[derive(Drop)]
-pub(crate) enum Location {
-    /// A fault without a position, as a missing root.
-    Nowhere,
-    /// A file, with a line and a column from 1 on; columns count bytes.
-    InPlace(Place),
-    /// A file as a whole.
-    InFile(String),
-    /// A byte of the input, counted from 0.
-    AtByte(usize),
-    /// The full names of a pair of types in a certificate.
-    AtPair(PairNames),
-    /// A choice of a pair: the number of its field, and which of the choices of that field it is.
-    AtChoice {
-        names: PairNames,
-        number: u32,
-        case: u8,
-    },
-}
 
 /// What a position names: a line and a column of its file, or the file as a whole.
 fn located(place: Place) -> Location
@@ -87,34 +65,5 @@ pub(crate) fn location_of_certificate(fault: CertificateFault) -> Location
     match fault {
         CertificateFault::Missing(file) | CertificateFault::Failed(file) => Location::InFile(file),
         CertificateFault::Refused(fault) => fault.location,
-    }
-}
-
-impl fmt::Display for Location {
-    ghost output = { λ it. Some (spec.location_of it) };
-
-    fn fmt<W: fmt::Write>(&self, f: &mut fmt::Formatter<W>) -> fmt::Result {
-        match self {
-            Location::Nowhere => Ok(()),
-            Location::InPlace(place) => write!(
-                f,
-                " {}:{}:{}",
-                place.file, place.line, place.column
-            ),
-            Location::InFile(file) => {
-                if file.is_empty() {
-                    Ok(())
-                } else {
-                    write!(f, " {file}")
-                }
-            }
-            Location::AtByte(at) => write!(f, " at {at}"),
-            Location::AtPair(names) => write!(f, " {} {}", names.old, names.new),
-            Location::AtChoice {
-                names,
-                number,
-                case,
-            } => write!(f, " {} {} {number} {case}", names.old, names.new),
-        }
     }
 }

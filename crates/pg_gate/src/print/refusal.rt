@@ -1,16 +1,15 @@
-//! The line of a refusal.
-ghost use Rattle.std.specs.Prelude.{◌≡◌, None, Some};
+//! The refusal of an error, and its status.
+ghost use Rattle.std.specs.Prelude.{◌≡◌, None};
 ghost use Rattle.pg_call.specs.Call.{request_of};
 ghost use Rattle.pg_gate.specs.print.Printed as printed;
 ghost use Rattle.pg_gate.specs.print.Refusals as refusals;
-ghost use Rattle.pg_gate.specs.print.Text as spec;
 
 use crate::call_error::{CallError, SOURCE_FAILED};
-use crate::error::{GateError, Side};
-use crate::print::location::{Location, location_of, location_of_certificate, location_of_fault};
+use crate::error::GateError;
+use crate::print::location::{location_of, location_of_certificate, location_of_fault};
 use pg_call::Call;
 use pg_dyn::DynError;
-use std::fmt;
+use pg_lines::{Location, Refusal};
 
 /// The code of a side that names no file.
 const NO_FILE: u16 = 907;
@@ -19,32 +18,22 @@ const NO_FILE: u16 = 907;
 /// that names no file.
 pub(crate) const USAGE: u8 = 4;
 
-/// A refusal: the side that was compiled, the code's number, and where the fault is.
-#[derive(Drop)]
-pub(crate) struct Refusal {
-    pub side: Option<Side>,
-    pub code: u16,
-    pub location: Location,
+/// 3 for a fault of a device, 4 for a side that names no file, and else 2.
+pub(crate) fn refusal_status(refusal: &Refusal) -> u8
+    ensures { result ≡ printed.refusal_status refusal.now }
+{
+    match refusal.code {
+        SOURCE_FAILED => 3,
+        NO_FILE => USAGE,
+        _ => 2,
+    }
 }
 
-impl Refusal {
-    /// 3 for a fault of a device, 4 for a side that names no file, and else 2.
-    pub(crate) fn status(&self) -> u8
-        ensures { result ≡ printed.refusal_status self.now }
-    {
-        match self.code {
-            SOURCE_FAILED => 3,
-            NO_FILE => USAGE,
-            _ => 2,
-        }
-    }
-
-    /// The refusal without its side, for files that are compiled by themselves.
-    fn without_side(self) -> Refusal
-        ensures { result ≡ refusals.without_side self }
-    {
-        alone(self.code, self.location)
-    }
+/// The refusal without its side, for files that are compiled by themselves.
+fn without_side(refusal: Refusal) -> Refusal
+    ensures { result ≡ refusals.without_side refusal }
+{
+    alone(refusal.code, refusal.location)
 }
 
 /// A refusal without a side.
@@ -108,20 +97,7 @@ pub(crate) fn refusal_for(call: &Call<'_>, error: CallError) -> Option<Refusal>
 {
     let refusal = refusal_of(error)?;
     match call {
-        Call::Compile(_) | Call::Show(_) | Call::Types { .. } => Some(refusal.without_side()),
+        Call::Compile(_) | Call::Show(_) | Call::Types { .. } => Some(without_side(refusal)),
         Call::Gate(_) | Call::GateAll(_) | Call::Verify { .. } => Some(refusal),
-    }
-}
-
-impl fmt::Display for Refusal {
-    ghost output = { λ it. Some (spec.refusal_of it) };
-
-    fn fmt<W: fmt::Write>(&self, f: &mut fmt::Formatter<W>) -> fmt::Result {
-        let code = self.code;
-        let location = &self.location;
-        match self.side {
-            Some(side) => writeln!(f, "refused {side} E{code}{location}"),
-            None => writeln!(f, "refused E{code}{location}"),
-        }
     }
 }

@@ -3,10 +3,10 @@ ghost use Rattle.std.specs.Prelude.{◌≡◌, IfOk};
 ghost use Rattle.pg_gate.specs.print.Printed.{either_status, finding_status, json_text, status_of, text_of, words_text};
 
 use crate::answer::all_types::AllTypes;
-use crate::answer::step::Step;
 use crate::answer::verified::Verified;
 use crate::print::lines::{json_for, words_for};
-use crate::print::refusal::Refusal;
+use crate::print::refusal::refusal_status;
+use pg_lines::{Refusal, Step};
 use std::alloc::{AllocError, Global};
 
 /// What a call is answered.
@@ -72,7 +72,7 @@ impl Reply {
             Reply::Found(finding) => finding.status(),
             Reply::Both { forward, backward } => either(forward.status(), backward.status()),
             Reply::All(all) => all.status(),
-            Reply::Refused(refusal) => refusal.status(),
+            Reply::Refused(refusal) => refusal_status(refusal),
         }
     }
 

@@ -18,17 +18,18 @@ use Rattle.pg_least.specs.Beside.{IsBesideClaim, IsWitnessMessage}
 use Rattle.pg_least.specs.Searched.{IsSearched, AreCarried, CarriesWitness, IsPath, carried_along}
 use Rattle.pg_least.specs.Loss.{AreRoots}
 use Rattle.pg_least.proofs.PublicLaws.{compatible_is_seen, lost_messages_break, named_types_are_there}
+use Rattle.pg_order.proofs.PublicLaws.{compatible_in_any_order, none_unseen_is_shorter}
 use Rattle.pg_gate.specs.answer.Answer.{IsAnswer, IsAnswerBy, IsBroken, IsCompatible, IsRefusedRoot, certificate_of}
 use Rattle.pg_gate.specs.answer.ViewAnswer.{IsAnswerUnder}
 use Rattle.pg_gate.specs.answer.Files.{IsFaultOfSide, IsSide, IsSideError}
 use Rattle.pg_gate.specs.answer.Grants.{Between, IsAnswerOfFiles, IsFindingOf, IsGateError, IsGateReply, IsSidesError, IsSidesFault}
 use Rattle.pg_call.specs.Call.{GateRequest}
 use Rattle.pg_gate.specs.inner.Reports.{Reports}
-use Rattle.pg_gate.specs.declared.error.Side.TheVariants as sides
+use Rattle.pg_lines.specs.declared.side.Side.TheVariants as sides
 use Rattle.pg_link.specs.walk.Walk.{World}
 use Rattle.pg_gate.specs.declared.answer.gate.Answer.{Answer}
 use Rattle.pg_gate.specs.declared.answer.gate.Answer.TheVariants as answers
-use Rattle.pg_gate.specs.declared.answer.step.Step.{Step}
+use Rattle.pg_lines.specs.declared.step.Step.{Step}
 use Rattle.pg_gate.specs.answer.Steps.{AreSteps}
 use Rattle.pg_gate.specs.declared.error.GateError.{GateError}
 use Rattle.pg_gate.specs.declared.error.GateError.TheVariants as gates
@@ -36,7 +37,7 @@ use Rattle.pg_gate.specs.declared.print.reply.Finding.{Finding}
 use Rattle.pg_gate.specs.declared.print.reply.Finding.TheVariants as findings
 use Rattle.pg_gate.specs.declared.print.reply.Reply.{Reply}
 use Rattle.pg_gate.specs.Failures.{failures_at, failures_by}
-use Rattle.pg_gate.specs.declared.error.Side.{Side}
+use Rattle.pg_lines.specs.declared.side.Side.{Side}
 use Rattle.pg_gate.proofs.lemmas.ErrorLemmas.{error-weaker, none_counted}
 use Rattle.pg_gate.proofs.lemmas.answer.Ranges.{searched_there}
 
@@ -57,7 +58,7 @@ none_is_there None there no_number = absurd (cc)
 none_is_there (Some None) there no_number = refl
 none_is_there (Some (Some n)) there no_number = absurd (cc)
 
-module _ (enum_view : EnumView) (old new : Parts) (root : Text) (claim : Claim) (roots : AreRoots old new root claim.root) (searched : IsSearched enum_view (shape_of old) (shape_of new) claim.root claim) where
+module _ (enum_view : EnumView) (old new : Parts) (is_old : IsShape (shape_of old)) (is_new : IsShape (shape_of new)) (root : Text) (claim : Claim) (roots : AreRoots old new root claim.root) (searched : IsSearched enum_view (shape_of old) (shape_of new) claim.root claim) where
   compatible_without : claim.witness ≡ None → IsCompatible enum_view old new root claim
   compatible_without none =
       let no_number : is_some (number_for (bound_in claim.bounds) claim.root) ≡ false = sym searched.witness_where_it_breaks ∙ ap is_some none in
@@ -66,6 +67,8 @@ module _ (enum_view : EnumView) (old new : Parts) (root : Text) (claim : Claim) 
       record {
         roots = roots;
         each_is_seen = compatible_is_seen enum_view.alike (shape_of old) (shape_of new) claim.root compatible;
+        in_any_order = λ message writes bytes written. compatible_in_any_order enum_view.alike (shape_of old) (shape_of new) claim.root.old claim.root.new message bytes
+            is_old is_new compatible writes.is_message writes.is_plain writes.has_encoding written;
         passes = searched.holds;
         searched = searched;
         bound_is_none = bound;
@@ -84,6 +87,8 @@ module _ (enum_view : EnumView) (old new : Parts) (root : Text) (claim : Claim) 
         type_is = is.type_is;
         lost = (lost_messages_break enum_view.alike (shape_of old) (shape_of new) claim.root (message_of kept)).1 is.breaks;
         none_shorter = λ v lost. least.least v ((lost_messages_break enum_view.alike (shape_of old) (shape_of new) claim.root v).0 lost);
+        in_any_order = λ message writes bytes written. none_unseen_is_shorter enum_view.alike (shape_of old) (shape_of new) claim.root.old claim.root.new
+            (length (enc (shape_of old) claim.root.old (message_of kept))) message bytes is_old is_new least.least writes.is_message writes.is_plain writes.has_encoding written;
         passes = searched.holds;
         searched = searched;
         breaks = is.breaks;
@@ -97,11 +102,11 @@ module _ (enum_view : EnumView) (old new : Parts) (root : Text) (claim : Claim) 
   answered_here None beside = compatible_without beside
 
 -- what a search of the roots finds is the gate's answer
-pub answered : (enum_view : EnumView) (old new : Parts) (root : Text) (pair : Pair) (claim : Claim) (witness : Option Kept) → AreRoots old new root pair → IsSearched enum_view (shape_of old) (shape_of new) pair claim
+pub answered : (enum_view : EnumView) (old new : Parts) → IsShape (shape_of old) → IsShape (shape_of new) → (root : Text) (pair : Pair) (claim : Claim) (witness : Option Kept) → AreRoots old new root pair → IsSearched enum_view (shape_of old) (shape_of new) pair claim
     → IsBesideClaim enum_view (shape_of old) (shape_of new) claim witness → IsAnswerBy enum_view old new root (answer_with claim witness)
-answered enum_view old new root pair claim witness roots searched beside =
+answered enum_view old new is_old is_new root pair claim witness roots searched beside =
     let same = sym searched.root_is in
-    answered_here enum_view old new root claim (subst (λ (p : Pair). AreRoots old new root p) same roots)
+    answered_here enum_view old new is_old is_new root claim (subst (λ (p : Pair). AreRoots old new root p) same roots)
     (subst (λ (p : Pair). IsSearched enum_view (shape_of old) (shape_of new) p claim) same searched) witness beside
 
 -- the certificate of an answer is one of the schemas' types

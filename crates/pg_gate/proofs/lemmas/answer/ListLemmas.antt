@@ -14,7 +14,7 @@ use Rattle.pg_gate.specs.declared.error.Fault.{Fault}
 use Rattle.pg_gate.specs.declared.error.Fault.TheVariants as faults
 use Rattle.pg_gate.specs.declared.error.GateError.{GateError}
 use Rattle.pg_gate.specs.declared.error.ListError.TheVariants as errors
-use Rattle.pg_gate.specs.declared.error.Side.{Side}
+use Rattle.pg_lines.specs.declared.side.Side.{Side}
 use Rattle.pg_gate.specs.inner.Lists as inner
 use Rattle.pg_gate.specs.inner.Sources.{world_of}
 use Rattle.pg_gate.proofs.lemmas.ErrorLemmas.{error-weaker}

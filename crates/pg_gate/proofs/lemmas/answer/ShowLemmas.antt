@@ -15,8 +15,8 @@ use Rattle.pg_gate.specs.inner.Showing.{IsShowFault, IsUnread, IsUnspelled}
 use Rattle.pg_gate.specs.declared.call_error.CallError.{CallError}
 use Rattle.pg_gate.specs.declared.call_error.CallError.TheVariants as calls
 use Rattle.pg_gate.specs.declared.error.GateError.{GateError}
-use Rattle.pg_gate.specs.declared.error.Side.{Side}
-use Rattle.pg_gate.specs.declared.error.Side.TheVariants as sides
+use Rattle.pg_lines.specs.declared.side.Side.{Side}
+use Rattle.pg_lines.specs.declared.side.Side.TheVariants as sides
 use Rattle.pg_gate.proofs.lemmas.ErrorLemmas.{call_error-weaker, error-weaker, memory_is, of_call, of_none}
 
 module _ (schema : Parts) (root word : Text) (type : TypeId) (named : IsNamed schema root type) where

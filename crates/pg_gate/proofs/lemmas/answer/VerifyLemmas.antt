@@ -29,8 +29,8 @@ use Rattle.pg_gate.specs.declared.call_error.CallError.{CallError}
 use Rattle.pg_gate.specs.declared.call_error.CallError.TheVariants as calls
 use Rattle.pg_gate.specs.declared.call_error.CertificateFault.TheVariants as certificates
 use Rattle.pg_gate.specs.declared.call_error.ClaimFault.{ClaimFault}
-use Rattle.pg_gate.specs.declared.error.Side.{Side}
-use Rattle.pg_gate.specs.declared.error.Side.TheVariants as sides
+use Rattle.pg_lines.specs.declared.side.Side.{Side}
+use Rattle.pg_lines.specs.declared.side.Side.TheVariants as sides
 use Rattle.pg_gate.specs.declared.print.reply.Finding.{Finding}
 use Rattle.pg_gate.proofs.lemmas.ErrorLemmas.{memory_is, of_memory, of_refused}
 use Rattle.pg_link.specs.walk.Walk.{World}

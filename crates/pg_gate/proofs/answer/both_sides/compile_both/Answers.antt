@@ -5,7 +5,7 @@ use Rattle.pg_gate.specs.answer.Files.{IsFaultOfSide, IsSide}
 use Rattle.pg_gate.specs.answer.Grants.{IsSidesError}
 use Rattle.pg_gate.specs.inner.Sources.{world_of}
 use Rattle.pg_gate.specs.declared.error.GateError.{GateError}
-use Rattle.pg_gate.specs.declared.error.Side.TheVariants as sides
+use Rattle.pg_lines.specs.declared.side.Side.TheVariants as sides
 use Rattle.pg_gate.proofs.lemmas.answer.AnswerLemmas.{of_new_side, of_old_side}
 use Rattle.pg_gate.proofs.lemmas.ErrorLemmas.{IfErr-IsErrAnd, new_alone, old_alone}
 use Rattle.pg_gate.proofs.lemmas.answer.SourceLemmas.{no_more, passed, unasked}

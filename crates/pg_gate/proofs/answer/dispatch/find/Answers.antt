@@ -6,7 +6,7 @@ use Rattle.pg_gate.specs.answer.Grants.{IsGateError}
 use Rattle.pg_call.specs.Paths.{paths_in}
 use Rattle.pg_gate.specs.inner.Sources.{world_of}
 use Rattle.pg_gate.specs.declared.error.GateError.{GateError}
-use Rattle.pg_gate.specs.declared.error.Side.TheVariants as sides
+use Rattle.pg_lines.specs.declared.side.Side.TheVariants as sides
 use Rattle.pg_gate.proofs.lemmas.answer.AnswerLemmas.{of_sides, refused_of_files, reply_of_files, root_uncounted}
 use Rattle.pg_gate.proofs.lemmas.ErrorLemmas.{IfErr-IsErrAnd}
 use Rattle.pg_gate.proofs.lemmas.answer.SourceLemmas.{no_more, passed}

@@ -4,7 +4,7 @@ use Rattle.pg_gate.specs.Failures.{failures_at}
 use Rattle.pg_call.specs.Paths.{paths_in}
 use Rattle.pg_gate.specs.answer.Grants.{IsSidesFault}
 use Rattle.pg_gate.specs.inner.Sources.{world_of}
-use Rattle.pg_gate.specs.declared.error.Side.TheVariants as sides
+use Rattle.pg_lines.specs.declared.side.Side.TheVariants as sides
 use Rattle.pg_gate.proofs.lemmas.ErrorLemmas.{memory_is, none_counted, of_memory}
 use Rattle.pg_gate.proofs.lemmas.answer.SourceLemmas.{no_more}
 use Rattle.pg_gate.proofs.answer.dispatch.find_all.Goals as goal

@@ -1,6 +1,6 @@
 use Rattle.std.proofs.Common.{◌≡◌, string_bytes, subst, IfOk}
-use Rattle.pg_gate.specs.print.Text.{refusal_of}
-use Rattle.pg_gate.specs.declared.print.refusal.Refusal.{Refusal}
+use Rattle.pg_lines.specs.Text.{refusal_of}
+use Rattle.pg_lines.specs.declared.refusal.Refusal.{Refusal}
 use Rattle.pg_gate.proofs.answer.explaining.refusal_line.Goals as goal
 
 pub returns : goal.returns

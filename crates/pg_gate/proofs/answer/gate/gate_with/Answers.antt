@@ -43,7 +43,7 @@ returns-in-Some-clause-answer c =
     let named = c.in_ok-certificate.ensures.named ∙ made.view in
     subst (λ (witness : Option Kept). IsAnswerUnder view old new c.args.root.now (answer_with found.certificate witness)) c.in-Some.is (
       named_with view found.certificate found.witness named,
-      answered (seen_under view old new) old new c.args.root.now pair found.certificate found.witness c.in_ok-pair.ensures.named searched beside,
+      answered (seen_under view old new) old new c.in_ok-pair.ensures.shapes.0 c.in_ok-pair.ensures.shapes.1 c.args.root.now pair found.certificate found.witness c.in_ok-pair.ensures.named searched beside,
     )
 
 pub returns-in-None-clause-answer : goal.returns-in-None-clause-answer
@@ -62,7 +62,7 @@ returns-in-None-clause-answer c =
     let named = c.in_ok-certificate.ensures.named ∙ made.view in
     subst (λ (witness : Option Kept). IsAnswerUnder view old new c.args.root.now (answer_with found.certificate witness)) c.in-None.is (
       named_with view found.certificate found.witness named,
-      answered (seen_under view old new) old new c.args.root.now pair found.certificate found.witness c.in_ok-pair.ensures.named searched beside,
+      answered (seen_under view old new) old new c.in_ok-pair.ensures.shapes.0 c.in_ok-pair.ensures.shapes.1 c.args.root.now pair found.certificate found.witness c.in_ok-pair.ensures.named searched beside,
     )
 
 pub returns-in-Some-clause-carried : goal.returns-in-Some-clause-carried

@@ -22,3 +22,6 @@ pub returns-clause-new_missing : goal.returns-clause-new_missing
 returns-clause-new_missing c has lacks =
     let named = (c.in-Some-message.ensures c.in-Some-message.new_root).0 refl in
     absurd (lacks c.in-Some-message.new_root named)
+
+pub returns-clause-shapes : goal.returns-clause-shapes
+returns-clause-shapes c = (c.parts.ensures.checked.shape, c.parts-2.ensures.checked.shape)

@@ -9,8 +9,8 @@ use Rattle.pg_gate.specs.inner.Lists.{IsUnnamed}
 use Rattle.pg_gate.specs.inner.Sources.{world_of}
 use Rattle.pg_gate.specs.declared.error.Fault.{Fault}
 use Rattle.pg_gate.specs.declared.error.GateError.{GateError}
-use Rattle.pg_gate.specs.declared.error.Side.{Side}
-use Rattle.pg_gate.specs.declared.error.Side.TheVariants as sides
+use Rattle.pg_lines.specs.declared.side.Side.{Side}
+use Rattle.pg_lines.specs.declared.side.Side.TheVariants as sides
 use Rattle.pg_gate.proofs.lemmas.ErrorLemmas.{IfErr-IsErrAnd, error-weaker}
 use Rattle.pg_gate.proofs.lemmas.answer.ListLemmas.{after_reads, as_listed, listed, unnamed}
 use Rattle.pg_gate.proofs.answer.listing.all_found.Goals as goal

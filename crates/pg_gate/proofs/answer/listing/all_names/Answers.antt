@@ -3,10 +3,10 @@ use Rattle.std.proofs.lemmas.Result.{IfErr-weaker, IfOk-weaker}
 use Rattle.pg_call.specs.Paths.{paths_in, paths_of}
 use Rattle.pg_gate.specs.answer.Files.{IsFaultOfSide}
 use Rattle.pg_gate.specs.answer.Grants.{OfSide}
-use Rattle.pg_gate.specs.print.Text.{ListsTypes}
+use Rattle.pg_gate.specs.answer.TypeNames.{ListsTypes}
 use Rattle.pg_gate.specs.answer.Grants.{IsListedFault}
 use Rattle.pg_gate.specs.inner.Sources.{world_of}
-use Rattle.pg_gate.specs.declared.error.Side.TheVariants as sides
+use Rattle.pg_lines.specs.declared.side.Side.TheVariants as sides
 use Rattle.pg_gate.proofs.lemmas.answer.ListLemmas.{after_reads, as_listed, error_of-weaker}
 use Rattle.pg_gate.proofs.answer.listing.all_names.Goals as goal
 

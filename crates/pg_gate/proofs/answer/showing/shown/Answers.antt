@@ -7,7 +7,7 @@ use Rattle.pg_gate.specs.inner.Sources.{world_of}
 use Rattle.pg_gate.specs.inner.Showing.{IsShowFault}
 use Rattle.pg_gate.specs.declared.call_error.CallError.{CallError}
 use Rattle.pg_gate.specs.declared.call_error.CallError.TheVariants as calls
-use Rattle.pg_gate.specs.declared.error.Side.TheVariants as sides
+use Rattle.pg_lines.specs.declared.side.Side.TheVariants as sides
 use Rattle.pg_gate.proofs.lemmas.ErrorLemmas.{IfErr-IsErrAnd, none_counted}
 use Rattle.pg_gate.proofs.lemmas.answer.ShowLemmas.{of_files, refused_of_files, shown_of_files, shown_uncounted}
 use Rattle.pg_gate.proofs.lemmas.answer.SourceLemmas.{no_more, passed}

@@ -7,7 +7,7 @@ use Rattle.pg_call.specs.Paths.{paths_in}
 use Rattle.pg_gate.specs.inner.Sources.{world_of}
 use Rattle.pg_gate.specs.answer.Grants.{as_given}
 use Rattle.pg_gate.specs.inner.Claims.{IsFound, IsUntaken}
-use Rattle.pg_gate.specs.declared.error.Side.TheVariants as sides
+use Rattle.pg_lines.specs.declared.side.Side.TheVariants as sides
 use Rattle.pg_gate.proofs.lemmas.ErrorLemmas.{none_counted}
 use Rattle.pg_gate.proofs.lemmas.answer.SourceLemmas.{no_more, then}
 use Rattle.pg_gate.proofs.lemmas.answer.VerifyLemmas.{found_of_files, untaken_of_files, untaken_uncounted}

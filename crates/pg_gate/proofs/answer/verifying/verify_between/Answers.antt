@@ -5,7 +5,7 @@ use Rattle.pg_gate.specs.Failures.{call_failures_at}
 use Rattle.pg_gate.specs.answer.Grants.{as_given}
 use Rattle.pg_gate.specs.inner.Claims.{IsClaimError, IsUntaken}
 use Rattle.pg_gate.specs.declared.call_error.CallError.{CallError}
-use Rattle.pg_gate.specs.declared.error.Side.TheVariants as sides
+use Rattle.pg_lines.specs.declared.side.Side.TheVariants as sides
 use Rattle.pg_gate.proofs.lemmas.ErrorLemmas.{IfErr-IsErrAnd, none_counted}
 use Rattle.pg_gate.proofs.lemmas.answer.SourceLemmas.{no_more, passed}
 use Rattle.pg_gate.proofs.lemmas.answer.VerifyLemmas.{claim_uncounted, untaken_refused, untaken_ungiven}

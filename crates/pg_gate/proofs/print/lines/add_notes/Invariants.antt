@@ -1,6 +1,6 @@
 -- The notes before the index have their lines.
 use Rattle.std.proofs.Common.{◌≡◌, ◌++◌, map, take}
-use Rattle.pg_gate.specs.print.Line.{lines_in, note}
+use Rattle.pg_lines.specs.Line.{lines_in, note}
 use Rattle.pg_gate.proofs.print.lines.add_notes.Given as goal
 
 abbrev pub invariant-loop-note : goal.invariant-loop-note

@@ -1,6 +1,6 @@
 -- The types before the index have their lines.
 use Rattle.std.proofs.Common.{◌≡◌, ◌++◌, take}
-use Rattle.pg_gate.specs.print.Line.{lines_in}
+use Rattle.pg_lines.specs.Line.{lines_in}
 use Rattle.pg_gate.specs.print.Lines.{type_lines}
 use Rattle.pg_gate.proofs.print.lines.add_types.Given as goal
 

@@ -1,9 +1,0 @@
--- The lines before the index are objects of theirs.
-use Rattle.std.proofs.Common.{◌≡◌, string_bytes, take}
-use Rattle.std.specs.List.{flat_map}
-use Rattle.pg_gate.specs.print.Json.{json_of}
-use Rattle.pg_gate.specs.print.Line.{lines_in}
-use Rattle.pg_gate.proofs.print.lines.json.Given as goal
-
-abbrev pub invariant-loop-line : goal.invariant-loop-line
-invariant-loop-line l = string_bytes l.text ≡ flat_map json_of (lines_in (take l.line-index l.lines))
