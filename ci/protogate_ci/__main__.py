@@ -38,7 +38,6 @@ def drop_relative_folders():
 
 
 def status_of(words):
-    """Returns what the gate returns, or what its command line ends with."""
     try:
         main = __import__("protogate_ci.gate", fromlist=["main"]).main
     except BaseException as fault:
@@ -56,7 +55,6 @@ def status_of(words):
 
 
 def start():
-    """Runs the gate on the words of the command line, and ends with its status."""
     if sys.version_info[:2] < OLDEST:
         found, oldest = (".".join(map(str, it)) for it in (sys.version_info[:3], OLDEST))
         say("Python " + found + " is too old: version " + oldest + " or a later one is needed")

@@ -12,8 +12,10 @@ import sys
 from urllib.parse import quote
 from xml.sax.saxutils import quoteattr
 
-from . import accepted
+from .asking import Place
+from .git import is_in, top_around
 from .running import Stop, plain
+from .settings import baseline_of
 
 FORMAT, VERSION, MOST_ANNOTATIONS, MOST_SUMMARY = "protogate-ci", 3, 10, 900_000
 # What a status says.
@@ -23,35 +25,34 @@ FILES = {"record": "all that was found as JSON", "sarif": "findings as SARIF 2.1
 
 
 def printed(call, findings, version):
-    """Prints a run and writes what is asked for. Returns the status."""
     found = findings.all()
+    if call.said.write_baseline is not None:
+        causes = [cause for cause, _ in findings.causes.values() if all(it.until is None for it in call.acceptance.of(cause))]
+        write(call.said.write_baseline, baseline_of(causes))
+    written = told(call, found, findings.olds, version)
+    sys.stdout.write(text(found) + (annotations(found) if call.said.github else ""))
+    return written
+
+
+def told(call, found, releases, version):
     status = max([it.status for it in found], default=0)
     run = {"status": status, "version": version, "base": call.base.revision, "settings": call.base.name if call.base.data is not None else None,
-           "releases": findings.olds, "folders": call.folders, "view": call.view, "compatibility": call.compatibility}
+           "releases": releases, "folders": call.folders, "view": call.view, "compatibility": call.compatibility}
     writers = {"record": record, "sarif": sarif, "junit": junit, "code_quality": code_quality, "page": page}
     for name, make in writers.items():
         if getattr(call.said, name) is not None:
             write(getattr(call.said, name), make(run, found))
-    if call.said.write_baseline is not None:
-        causes = [cause for cause, _ in findings.causes.values() if all(it.until is None for it in call.acceptance.of(cause))]
-        if any(accepted.keys_of(it) is None for it in causes):
-            raise Stop(3, "no baseline is written: the program doesn't say the types of a cause")
-        write(call.said.write_baseline, accepted.written(causes))
-    sys.stdout.write(text(found))
     if call.said.github:
-        sys.stdout.write(annotations(found))
         summarize(run, found)
     return status
 
 
 def at(found):
-    """Returns a place as words."""
     of = "old " if found.side == "old" and found.kind == "warning" else ""
     return of + ":".join(plain(str(it)) for it in found.place if it is not None) if found.place else ""
 
 
 def title(it):
-    """Returns the words by which a finding is known: those of its line."""
     return " ".join(plain(word) for word in (it.kind, it.rule, it.subject) if word)
 
 
@@ -102,20 +103,18 @@ def marked(words):
 
 
 def markdown(run, found):
-    lines = [f"### protogate: {VERDICTS.get(run['status'], VERDICTS[3]).lower()}", ""]
-    rows = [it for it in found if it.level != "note"]
-    if rows:
-        lines += ["| What | Where | Why, and what to do |", "|---|---|---|"]
-    lines += ["| " + " | ".join(marked(it) for it in (" ".join([title(it), it.since]).strip(), at(it), it.words)) + " |" for it in rows]
-    lines += ["", *(f"- {marked(' '.join([title(it), it.since, it.says]))}" for it in found if it.level == "note")]
+    rows = [(" ".join([title(it), it.since]).strip(), at(it), it.words) for it in found if it.level != "note"]
+    head = ["| What | Where | Why, and what to do |", "|---|---|---|"] if rows else []
+    lines = [f"### protogate: {verdict(run).lower()}", "", *head, *("| " + " | ".join(map(marked, row)) + " |" for row in rows), "",
+             *(f"- {marked(' '.join([title(it), it.since, it.says]))}" for it in found if it.level == "note")]
     return "\n".join(lines) + "\n"
 
 
+def verdict(run):
+    return VERDICTS.get(run["status"], VERDICTS[3])
+
+
 # SARIF: https://docs.oasis-open.org/sarif/sarif/v2.1.0/os/sarif-v2.1.0-os.html
-
-
-def uri(path):
-    return quote(os.fsencode(path))
 
 
 def fingerprint(it):
@@ -124,30 +123,34 @@ def fingerprint(it):
     return hashlib.sha256("\0".join(key).encode("utf-8", "surrogateescape")).hexdigest()
 
 
+def filled(**keys):
+    return {key: it for key, it in keys.items() if it}
+
+
+def result(it):
+    region = filled(startLine=it.spot.line, startColumn=it.spot.column if it.spot.line else None) if it.spot else None
+    physical = {"artifactLocation": {"uri": quote(os.fsencode(it.spot.path)), "uriBaseId": "%SRCROOT%"}, **filled(region=region)} if it.spot else None
+    suppressions = [{"kind": "external", "justification": plain(it.says)}] if is_left_out(it) else None
+    return {"ruleId": plain(rule_of(it)), "level": it.level, "message": {"text": plain(it.words) or title(it)},
+            "locations": [filled(physicalLocation=physical, logicalLocations=[{"fullyQualifiedName": plain(it.subject)}])],
+            "partialFingerprints": {"protogate/v1": fingerprint(it)}, **filled(suppressions=suppressions)}
+
+
 def sarif(run, found):
-    rules = {rule_of(it): it for it in found}
-    results = []
-    for it in found:
-        region = {"startLine": it.spot.line, **({"startColumn": it.spot.column} if it.spot.column else {})} if it.spot and it.spot.line else None
-        artifact = {"uri": uri(it.spot.path), "uriBaseId": "%SRCROOT%"} if it.spot else None
-        physical = {"artifactLocation": artifact, **({"region": region} if region else {})} if artifact else None
-        logical = [{"fullyQualifiedName": plain(it.subject)}]
-        results.append({
-            "ruleId": plain(rule_of(it)), "level": it.level, "message": {"text": plain(it.words) or title(it)},
-            "locations": [{**({"physicalLocation": physical} if physical else {}), "logicalLocations": logical}],
-            "partialFingerprints": {"protogate/v1": fingerprint(it)},
-            **({"suppressions": [{"kind": "external", "justification": plain(it.says)}]} if it.kind in ("accepted", "skipped") else {})})
-    driver = {"name": "protogate", "version": run["version"].partition(" ")[2] or run["version"],
-              "rules": [{"id": plain(name), "shortDescription": {"text": plain(name)}, "help": {"text": plain(it.page or it.words or name)}}
-                        for name, it in rules.items()]}
+    rules = [{"id": plain(name), "shortDescription": {"text": plain(name)}, "help": {"text": plain(it.page or it.words or name)}}
+             for name, it in {rule_of(it): it for it in found}.items()]
+    driver = {"name": "protogate", "version": run["version"].partition(" ")[2] or run["version"], "rules": rules}
     done = {"executionSuccessful": run["status"] < 3, "exitCode": run["status"]}
-    made = {"$schema": "https://json.schemastore.org/sarif-2.1.0.json", "version": "2.1.0",
-            "runs": [{"tool": {"driver": driver}, "invocations": [done], "results": results}]}
-    return jsonified(made)
+    return jsonified({"$schema": "https://json.schemastore.org/sarif-2.1.0.json", "version": "2.1.0",
+                      "runs": [{"tool": {"driver": driver}, "invocations": [done], "results": [result(it) for it in found]}]})
 
 
 def rule_of(it):
     return f"{it.kind}/{it.rule}" if it.rule else it.kind
+
+
+def is_left_out(it):
+    return it.kind in ("accepted", "skipped")
 
 
 def jsonified(made):
@@ -160,36 +163,19 @@ def jsonified(made):
 
 def junit(run, found):
     """Returns a case for each finding. Those that fail are failures, and what is left out is skipped."""
-    failures, errors, skipped = (sum(test(it) for it in found) for test in (is_failure, is_error, is_left_out))
-    counts = f'tests="{len(found)}" failures="{failures}" errors="{errors}" skipped="{skipped}"'
-    lines = ['<?xml version="1.0" encoding="UTF-8"?>', f'<testsuites {counts}>', f'<testsuite name="protogate" {counts} time="0">']
+    def attributes(**said):
+        # (what is printable is a letter of XML too, by its section 2.2)
+        return "".join(f" {name}={quoteattr(plain(str(it)))}" for name, it in said.items() if it is not None)
+    cases, counts = [], {"tests": len(found), "failures": 0, "errors": 0, "skipped": 0}
     for it in found:
-        where = f" file={attribute(it.spot.path)}" + (f' line="{it.spot.line}"' if it.spot.line else "") if it.spot else ""
-        inner, says = "", attribute(it.words or title(it))
-        if it.status:
-            kind = "failure" if is_failure(it) else "error"
-            inner = f"<{kind} type={attribute(rule_of(it))} message={says}/>"
-        elif is_left_out(it):
-            inner = f"<skipped message={says}/>"
-        lines.append(f"<testcase classname={attribute(rule_of(it))} name={attribute(it.subject)} time=\"0\"{where}>{inner}</testcase>")
-    return ("\n".join([*lines, "</testsuite>", "</testsuites>"]) + "\n").encode("utf-8")
-
-
-def is_failure(it):
-    return it.status in (1, 2)
-
-
-def is_error(it):
-    return it.status > 2
-
-
-def is_left_out(it):
-    return it.kind in ("accepted", "skipped")
-
-
-def attribute(words):
-    """Returns words as an attribute of XML. What is printable is a letter of XML too (its section 2.2)."""
-    return quoteattr(plain(words))
+        kind = "error" if it.status > 2 else "failure" if it.status else "skipped" if is_left_out(it) else ""
+        counts[kind + "s" * bool(it.status)] = counts.get(kind + "s" * bool(it.status), 0) + 1
+        inner = f"<{kind}{attributes(type=rule_of(it) if it.status else None, message=it.words or title(it))}/>" if kind else ""
+        where = {"file": it.spot.path, "line": it.spot.line} if it.spot else {}
+        cases.append(f"<testcase{attributes(classname=rule_of(it), name=it.subject, time=0, **where)}>{inner}</testcase>")
+    counts.pop("", None)
+    return "\n".join(['<?xml version="1.0" encoding="UTF-8"?>', f"<testsuites{attributes(**counts)}>",
+                      f"<testsuite{attributes(name='protogate', **counts, time=0)}>", *cases, "</testsuite>", "</testsuites>", ""]).encode("utf-8")
 
 
 # GitLab: https://docs.gitlab.com/ci/testing/code_quality/#code-quality-report-format
@@ -197,13 +183,12 @@ def attribute(words):
 
 def code_quality(run, found):
     """Returns an issue for each finding that fails or warns. GitLab wants a place of each."""
-    severities = {"error": "major", "warning": "minor"}
-    some = run["folders"][0] if run["folders"] else "."
+    some = Place((run["folders"] or ["."])[0])
     return jsonified([{
         "description": f"{title(it)}: {plain(it.words)}".rstrip(": "), "check_name": plain(rule_of(it)), "fingerprint": fingerprint(it),
-        "severity": "blocker" if it.status > 2 else severities[it.level],
-        "location": {"path": it.spot.path.encode("utf-8", "surrogateescape").decode("utf-8", "replace") if it.spot else plain(some),
-                     "lines": {"begin": it.spot.line or 1 if it.spot else 1}}} for it in found if it.level != "note" and it.kind != "breaks"])
+        "severity": "blocker" if it.status > 2 else "major" if it.level == "error" else "minor",
+        "location": {"path": (it.spot or some).path.encode("utf-8", "surrogateescape").decode("utf-8", "replace"),
+                     "lines": {"begin": (it.spot or some).line or 1}}} for it in found if it.level != "note" and it.kind != "breaks"])
 
 
 # The record and the page.
@@ -211,31 +196,29 @@ def code_quality(run, found):
 
 def record(run, found):
     return jsonified({"format": FORMAT, "version": VERSION, **{("program" if key == "version" else key): it for key, it in run.items()},
-                      "findings": [{**it._asdict(), "level": it.level, "place": it.place._asdict() if it.place else None,
-                                    "fingerprint": fingerprint(it)} for it in found]})
+                      "findings": [{**it._asdict(), "level": it.level, "place": it.place and it.place._asdict(), "fingerprint": fingerprint(it)}
+                                   for it in found]})
 
 
 STYLE = ("body{font:16px/1.5 sans-serif;max-width:60em;margin:2em auto;padding:0 1em}li{margin:1em 0}pre{background:#8882;padding:.5em;overflow:auto}"
          ".error{border-left:4px solid #c33;padding-left:1em}.warning{border-left:4px solid #c93;padding-left:1em}.note{padding-left:1em}")
+# (the policy says too that the page loads nothing, runs nothing and links nowhere, whatever gets into it)
+HEAD = (f'<!doctype html><html lang="en"><meta charset="utf-8"><meta http-equiv="Content-Security-Policy" content="default-src \'none\'; '
+        f'style-src \'unsafe-inline\'"><title>protogate</title><style>{STYLE}</style>')
 
 
 def page(run, found):
-    """Returns a page that loads nothing, runs nothing, and links nowhere."""
     def shown(words):
         return html.escape(plain(words))
-    # (the policy says so too, whatever gets into it)
-    head = (f'<!doctype html><html lang="en"><meta charset="utf-8"><meta http-equiv="Content-Security-Policy" content="default-src \'none\'; '
-            f'style-src \'unsafe-inline\'"><title>protogate</title><style>{STYLE}</style>')
-    about = f"{run['version']}, against {', '.join(run['releases'])}"
-    lines = [head, f"<h1>{VERDICTS.get(run['status'], VERDICTS[3])}</h1>", f"<p>{shown(about)}</p>", "<ul>"]
+    lines = [HEAD, f"<h1>{verdict(run)}</h1>", f"<p>{shown(run['version'])}, against {shown(', '.join(run['releases']))}</p>", "<ul>"]
     for it in found:
         lines.append(f'<li class="{it.level}"><b>{shown(title(it))}</b> {shown(at(it))} {shown(it.since)}<br>{shown(it.says)}')
         lines += [f"<br>What to do: {shown(it.mend)}"] * bool(it.mend)
         for side, reading in ((it.details or {}).get("readings") or {}).items():
-            lines.append(f"<p>The {side} side reads <code>{shown(it.details['message'])}</code> as:</p><pre>" + "\n".join(
-                shown(line) for line in reading.rstrip("\n").split("\n")) + "</pre>")
+            read = "\n".join(map(shown, reading.rstrip("\n").split("\n")))
+            lines.append(f"<p>The {side} side reads <code>{shown(it.details['message'])}</code> as:</p><pre>{read}</pre>")
         lines.append("</li>")
-    return ("\n".join([*lines, "</ul></html>"]) + "\n").encode("utf-8", "replace")
+    return "\n".join([*lines, "</ul></html>", ""]).encode("utf-8", "replace")
 
 
 # Files.
@@ -265,9 +248,4 @@ def write(path, data):
 
 def is_of_a_change(folder):
     """Returns whether a change may have what is in a folder: it is in a work tree, or in the current folder."""
-    around = folder
-    while not os.path.lexists(os.path.join(around, ".git")):
-        if os.path.dirname(around) == around:
-            return os.path.join(folder, "").startswith(os.path.join(os.path.realpath("."), ""))
-        around = os.path.dirname(around)
-    return True
+    return top_around(folder) is not None or is_in(folder, ".")

@@ -17,7 +17,7 @@ backward: new programs read old messages. forward: old programs read new ones. f
 `protogate-ci init [FOLDER..]` writes protogate.ini, and says which files can be gated. Where nothing names a folder, buf.yaml and buf.work.yaml do.
 
 The status is the highest of these: 0 all may be released; 1 breaks; 2 removed, refused, or a warning that is strict; 3 out of memory, or a file or a
-program failed; 4 a wrong call; 127 no protogate, or too old a git or Python.
+program failed; 4 a wrong call; 5 too old a protogate; 127 none, or too old a git or Python.
 """
 
 import argparse
@@ -26,18 +26,26 @@ import fnmatch
 import os
 import sys
 
-from . import accepted, buf, forms, protoc, settings, sources
+from . import buf, forms, methods, protoc, settings, sources
 from .asking import BACKWARD, FORWARD, Asked, Fault, Place, Side, library_of, look_for_program, types_of
 from .findings import Findings
 from .git import Repository, did_you_mean
 from .running import STATE, Ended, Stop, end_by_signal, on_signals, plain, room
-from .settings import COMPATIBILITIES, Skip, Skips
-from .snapshot import is_below, is_skipped, unseen
-from .words import NOTES
+from .settings import COMPATIBILITIES, Skip, Skips, file_of
+from .snapshot import Snapshot, is_below, is_skipped, unseen
+from .words import NOTES, Finding
 
 NAME = "protogate-ci"
 DIRECTIONS = {"backward": (BACKWARD,), "forward": (FORWARD,), "full": (BACKWARD, FORWARD)}
 TRANSITIVE = "-transitive"
+# Options that hold a word each, which a command or a variable may have left empty.
+SIDES = (("merge-base", "BRANCH", "old", "the old side is the commit where this branch was left"),
+         ("old-folder", "PATH", "old", "the old side is a folder, whatever git knows of it"),
+         ("old-set", "FILE", "old", "the old side is a descriptor set or an image"),
+         ("new", "REVISION", "new", "the new side is a revision"), ("new-folder", "PATH", "new", "the new side is a folder"),
+         ("new-set", "FILE", "new", "the new side is a descriptor set or an image"),
+         ("base", "REVISION", "whose", "take protogate.ini as it was there: in a pull request, at the target branch"),
+         ("settings", "FILE", "whose", "take the settings of this file, for which you vouch"))
 
 
 class Parser(argparse.ArgumentParser):
@@ -48,18 +56,13 @@ class Parser(argparse.ArgumentParser):
 def parser_of():
     made = Parser(prog=NAME, description=__doc__, formatter_class=argparse.RawDescriptionHelpFormatter, allow_abbrev=False)
     made.add_argument("words", metavar="REVISION FOLDER", nargs="*", help="the old side, unless an option names it, and the folders to gate")
-    old, new, whose = (made.add_mutually_exclusive_group() for _ in range(3))
-    old.add_argument("--merge-base", metavar="BRANCH", help="the old side is the commit where this branch was left")
-    old.add_argument("--old-folder", metavar="PATH", help="the old side is a folder, whatever git knows of it")
-    old.add_argument("--old-set", metavar="FILE", help="the old side is a descriptor set or an image")
-    new.add_argument("--new", metavar="REVISION", help="the new side is a revision")
-    new.add_argument("--staged", action="store_true", help="the new side is what is staged")
-    new.add_argument("--new-folder", metavar="PATH", help="the new side is a folder")
-    new.add_argument("--new-set", metavar="FILE", help="the new side is a descriptor set or an image")
-    whose.add_argument("--base", metavar="REVISION", help="take protogate.ini as it was there: in a pull request, at the target branch")
-    whose.add_argument("--settings", metavar="FILE", help="take the settings of this file, for which you vouch")
-    whose.add_argument("--no-settings", action="store_true", help="take none")
+    groups = {name: made.add_mutually_exclusive_group() for name in ("old", "new", "whose")}
+    for name, metavar, group, what in SIDES:
+        groups[group].add_argument(f"--{name}", metavar=metavar, help=what)
+    groups["new"].add_argument("--staged", action="store_true", help="the new side is what is staged")
+    groups["whose"].add_argument("--no-settings", action="store_true", help="take none")
     made.add_argument("--include", metavar="FOLDER", action="append", help="look for imports in this folder too")
+    made.add_argument("--type", metavar="NAME", action="append", default=[], help="gate this type alone, as often as needed")
     made.add_argument("--skip", metavar="NAME", action="append", default=[], help="leave out type:NAME or path:NAME")
     made.add_argument("--compatibility", choices=COMPATIBILITIES, help="who reads whose messages")
     made.add_argument("--view", choices=("numbers", "names"), help="compare enums by numbers alone, or by names too")
@@ -79,49 +82,54 @@ class Call:
     """What is asked: the words of the call, completed by the settings that count."""
 
     def __init__(self, said):
-        self.said, self.left_out = said, []
-        for name in ("merge_base", "old_folder", "old_set", "new", "new_folder", "new_set", "base", "settings", "baseline"):
-            if getattr(said, name) == "":
-                raise Stop(4, f"--{name.replace('_', '-')} is empty: the command or variable that it comes from gave nothing")
+        self.said, self.left_out, self.laid = said, [], {}
+        for name in (*(it[0] for it in SIDES), "baseline"):
+            if getattr(said, name.replace("-", "_")) == "":
+                raise Stop(4, f"--{name} is empty: the command or variable that it comes from gave nothing")
         names_old = said.merge_base or said.old_folder or said.old_set
         self.revision, self.folders = (None, said.words) if names_old else (said.words[0], said.words[1:]) if said.words else (None, [])
         is_outside = (said.old_folder or said.old_set) and (said.new_folder or said.new_set)
         self.repository = None if is_outside else Repository.here()
         self.base = self.base_of()
         self.settings = self.base.settings()
-        known = self.settings.said
+        self.complete(self.settings.said)
+        skips = [*(Skip(it, f"--skip {it}") for it in said.skip), *(it for it in self.settings.skips if not self.settings.is_over(it))]
+        self.skips = Skips([it for it in skips if not self.is_named(it)])
+        self.acceptance = settings.Acceptance(self.settings, self.baseline())
+        self.differs = settings.difference(self.base, self.repository) if self.repository else None
+
+    def complete(self, known):
+        said = self.said
         self.view, self.compatibility = said.view or known.get("view", "numbers"), said.compatibility or known.get("compatibility")
+        self.by_name = {**({"": self.compatibility} if self.compatibility else {}), **self.settings.by_name}
         self.strict = set(said.strict or known.get("strict", ()))
         for it in self.strict.difference(NOTES, ["all"]):
             raise Stop(4, f"there is no kind of warning {plain(it)}{did_you_mean(it, list(NOTES))}; there are all, {', '.join(NOTES)}")
         self.with_protoc = known.get("with-protoc") == "yes" if said.with_protoc is None else said.with_protoc
-        with contextlib.suppress(KeyError):
-            STATE.limit = self.seconds(said.time_limit) if said.time_limit else known["time-limit"]
+        try:
+            STATE.limit = settings.seconds(said.time_limit) if said.time_limit is not None else known.get("time-limit", STATE.limit)
+        except ValueError as fault:
+            raise Stop(4, f"--time-limit is {fault}") from None
         self.includes = [self.from_top(it) for it in said.include] if said.include is not None else known.get("include", [])
         self.folders = [self.from_top(it) for it in self.folders] or known.get("folder", [])
         if not self.folders and self.base.revision is not None:
-            self.folders = buf.folders_of(buf.of_revision(self.repository, self.base.revision))
-        self.skips = Skips([*(Skip(it, f"--skip {it}") for it in said.skip), *(it for it in self.settings.skips if not self.settings.is_over(it))])
-        self.by_name = {**({"": self.compatibility} if self.compatibility else {}), **self.settings.by_name}
-        self.acceptance = accepted.Acceptance(self.settings, self.baseline())
-        self.differs = settings.difference(self.base, self.repository) if self.repository else None
+            self.folders = buf.folders_of(lambda name: file_of(self.repository, self.base.revision, name))
+
+    def is_named(self, skip):
+        """Stops where the call names a type that is left out: there would be no answer for it."""
+        if skip.kind != "path" and skip.name in self.said.type:
+            raise Stop(4, f"{plain(skip.name)} is named, and left out too: {plain(skip.shown)}")
 
     def base_of(self):
         said = self.said
-        if said.no_settings:
-            return settings.Base(None, "--no-settings")
         if said.settings is not None:
-            return settings.of_file(said.settings)
+            return settings.Base(settings.read_named("--settings", said.settings), os.path.normpath(said.settings))
         revision = said.base or self.revision or (self.repository.merge_base(said.merge_base) if said.merge_base else None)
-        if revision is None and not (said.old_folder or said.old_set):
+        if revision is None and not (said.old_folder or said.old_set or said.no_settings):
             raise Stop(4, "name REVISION and FOLDER, or where the settings are from that name them: --base REVISION or --settings FILE")
-        return settings.of_revision(self.repository, revision) if revision and self.repository else settings.Base(None, "--no-settings")
-
-    def seconds(self, said):
-        try:
-            return settings.seconds(said)
-        except ValueError as fault:
-            raise Stop(4, f"--time-limit is {fault}") from None
+        if said.no_settings or not (revision and self.repository):
+            return settings.Base(None, "--no-settings")
+        return settings.Base(file_of(self.repository, revision), settings.FILE, revision)
 
     def from_top(self, folder):
         return self.repository.from_top(folder) if self.repository else os.path.normpath(folder or ".")
@@ -134,53 +142,47 @@ class Call:
             return []
         inner = os.path.relpath(os.path.realpath(path), os.path.realpath(self.repository.top)) if self.repository else ".."
         if revision is None or inner.startswith(".."):
-            try:
-                return accepted.read(sources.read_file(path, settings.MOST_BYTES), path)
-            except OSError as fault:
-                raise Stop(4, f"--baseline: {plain(path)} can't be read ({fault.strerror})") from None
-        data = buf.of_revision(self.repository, revision)(inner)
+            return settings.read_baseline(settings.read_named("--baseline", path), path)
+        data = file_of(self.repository, revision, inner)
         if data is None:
             raise Stop(4, f"--baseline: {plain(revision)} has no file {plain(inner)}: name with --base a revision that has it, or --settings FILE")
-        return accepted.read(data, f"{inner} of {revision}")
+        return settings.read_baseline(data, f"{inner} of {revision}")
 
     # The sides.
 
     def olds(self):
-        """Returns the old sides by name, each with what makes its source: the releases, the oldest first."""
+        """Returns the old sides, each by its kind and its name: the releases, the oldest first."""
         said, repository = self.said, self.repository
         if said.old_set is not None or said.old_folder is not None:
-            return [said.old_folder if said.old_set is None else said.old_set]
+            return [("set", said.old_set) if said.old_set is not None else ("folder", said.old_folder)]
         if said.merge_base is not None:
-            return [repository.merge_base(said.merge_base)]
-        tags = os.fsdecode(repository.must("for-each-ref", "--sort=creatordate", "--format=%(refname:strip=2)", "refs/tags")).splitlines()
-        found = [self.revision] if self.revision is not None else settings.releases_of(self.settings.said.get("releases", []), tags)
+            return [("revision", repository.merge_base(said.merge_base))]
+        found = [self.revision] if self.revision is not None else settings.releases_of(self.settings.said.get("releases", []), repository.tags())
         if not found:
             raise Stop(4, "name REVISION, or give the settings `releases`")
         if "" in self.by_name and not any(it.endswith(TRANSITIVE) for it in self.by_name.values()):
             self.left_out, found = found[:-1], found[-1:]
-        return found
+        return [("revision", it) for it in found]
 
-    def old_source(self, name, room):
-        if self.said.old_folder is not None:
-            return sources.Folder(name, plain(name))
-        return sources.Tree(self.repository, self.repository.commit_of(name), plain(name), room)
+    def new(self):
+        said = self.said
+        named = (("set", said.new_set), ("folder", said.new_folder), ("revision", said.new), ("staged", "what is staged" if said.staged else None))
+        return next((it for it in named if it[1] is not None), ("now", ""))
 
-    def new_source(self, room):
-        said, repository = self.said, self.repository
-        if said.new_folder is not None:
-            return sources.Folder(said.new_folder, plain(said.new_folder))
-        if said.new is not None:
-            return sources.Tree(repository, repository.commit_of(said.new), plain(said.new), room)
-        return sources.Tree(repository, repository.staged(room), "what is staged", room) if said.staged else sources.WorkTree(repository)
-
-    def side(self, name, path, source, laid, room, library):
-        if path is not None:
-            return Side.of_set(name, sources.descriptor_set(path, room))
+    def side(self, which, side, room, library):
+        kind, name = side
+        if kind == "set":
+            return Side(which, room, sources.descriptor_set(name, room))
         if not self.folders:
             raise Stop(4, "name a FOLDER, or give the settings `folder`")
-        side = Side.of_source(name, source(), self.folders, self.includes, room)
-        side.lay(laid, self.skips.paths, library)
-        return side
+        if kind in ("revision", "staged"):
+            tree = self.repository.commit_of(name) if kind == "revision" else self.repository.staged(room)
+            source = sources.Tree(self.repository, tree, plain(name), room)
+        else:
+            source = sources.Folder(name, plain(name)) if kind == "folder" else sources.WorkTree(self.repository)
+        made = Side(which, room, snapshot=Snapshot(source, self.folders, self.includes))
+        made.lay(self.skips.paths, library, self.laid)
+        return made
 
     # Directions.
 
@@ -192,13 +194,11 @@ class Call:
         return words if like or words and name not in by_path.get("", ()) else [*words, self.by_name.get("", BACKWARD + TRANSITIVE)]
 
     def directions(self):
-        """Returns all directions that are asked for, of any type."""
         words = {it.replace(TRANSITIVE, "") for it in (self.by_name.get("", BACKWARD), *self.settings.by_name.values())}
         return [it for it in (BACKWARD, FORWARD) if any(it in DIRECTIONS[word] for word in words) or it == BACKWARD and self.strict]
 
-    def wants(self, name, direction, is_last, by_path):
-        """Returns whether a type is asked for in a direction, of the last release or of one before it."""
-        words = [it for it in self.words_for(name, by_path) if is_last or it.endswith(TRANSITIVE)]
+    def wants(self, names, direction, is_last, by_path):
+        words = [it for name in names for it in self.words_for(name, by_path) if is_last or it.endswith(TRANSITIVE)]
         return any(direction in DIRECTIONS[it.replace(TRANSITIVE, "")] for it in words)
 
     def by_path(self, sides, left, by_protoc):
@@ -212,7 +212,7 @@ class Call:
             asked = [(side, [name for name, path in side.roots.items() if name not in left and is_meant(path)]) for side in sides]
             for group, _, made in by_protoc:
                 if any(is_meant(side.roots[it]) for side in sides for it in group if it in side.roots):
-                    asked += [(it, list(it.roots)) for it in made]
+                    asked += [(it, list(it.roots)) for it in made.sides.values()]
             for told in (types_of(side, roots) for side, roots in asked):
                 if told is None:
                     raise Stop(3, f"which types {plain(folder or 'each folder')} has isn't known, so that [for path:..] can't be heeded")
@@ -235,7 +235,9 @@ def gate_release(call, old, new, room):
         faults += first.faults
     first.faults[:] = faults
     results = {directions[0]: first, **{it: asked.found(it, left) for it in directions[1:]}}
-    for _, found, _ in by_protoc:
+    methods.gate(asked, results, left | mine["old"] | mine["new"])
+    for _, found, made in by_protoc:
+        methods.gate(made, found)
         for direction, it in found.items():
             results[direction].take(it)
     return results, by_protoc
@@ -248,14 +250,14 @@ def refused_on_one_side(old, new):
 
 
 def gated(call, within):
-    """Gates the new side against each old one, and returns what was found."""
-    said, laid, library = call.said, {}, library_of(within)
-    new = call.side("new", said.new_set, lambda: call.new_source(within), laid, within, library)
+    library = library_of(within)
+    new = call.side("new", call.new(), within, library)
     olds = call.olds()
     findings = Findings(call, new)
-    for name in olds:
+    for release in olds:
+        name = release[1]
         try:
-            old = call.side("old", said.old_set, lambda name=name: call.old_source(name, within), laid, within, library)
+            old = call.side("old", release, within, library)
             if not (old.roots or new.roots or old.faults or new.faults or call.skips.paths):
                 raise Stop(4, f"{plain(', '.join(call.folders))} has no file whose name ends in .proto, at {plain(name)} or now")
             if new.snapshot and old.snapshot:
@@ -265,9 +267,9 @@ def gated(call, within):
             mended = {it for group, *_ in by_protoc for it in group}
             findings.by_protoc |= mended
             left = {it.root for found in results.values() for it in found.faults} | mended
-            findings.take(name, name == olds[-1], old, results, call.by_path((old, new), left, by_protoc))
+            findings.take(name, release == olds[-1], old, results, call.by_path((old, new), left, by_protoc))
         except Stop as stop:
-            if len(olds) == 1:
+            if len(olds) == 1 or stop.status > 4:
                 raise
             findings.stopped(name, stop)
     return findings
@@ -276,8 +278,8 @@ def gated(call, within):
 def main(words):
     on_signals()
     for stream in (sys.stdout, sys.stderr):
-        if hasattr(stream, "reconfigure"):
-            stream.reconfigure(encoding="utf-8", errors="backslashreplace")
+        getattr(stream, "reconfigure", dict)(encoding="utf-8", errors="backslashreplace")
+    call = None
     try:
         if words[:1] == ["init"]:
             look_for_program()
@@ -293,6 +295,8 @@ def main(words):
         return forms.printed(call, findings, version)
     except Stop as stop:
         print(f"{NAME}: {plain(str(stop))}", file=sys.stderr)
+        with contextlib.suppress(Stop):
+            forms.told(call, [Finding("refused", "stopped", "", says=str(stop), status=stop.status)], [], version) if call else None
         return stop.status
     except Ended:
         end_by_signal()

@@ -7,7 +7,7 @@ import re
 import shutil
 import tempfile
 
-from .running import Stop, plain, run, run_up_to
+from .running import MOST_BYTES, Stop, plain, run
 
 # The first git whose rev-parse takes --end-of-options.
 OLDEST = (2, 30)
@@ -26,18 +26,17 @@ MOST_LISTED, MOST_AT_ONCE = 64_000_000, 16_000_000
 MOST_NAMES, MOST_LETTERS = 500, 60
 
 
-def called(words, at, dropped=LEADING + OF_ONE_REPOSITORY, most=None, given=None, **more):
+def called(words, at, dropped=LEADING + OF_ONE_REPOSITORY, given=b"", most=MOST_BYTES, **more):
     """Runs git. Returns its status, what it printed, up to `most` bytes, and its faults."""
     environment = {**{name: it for name, it in os.environ.items() if name not in dropped}, **ALWAYS, **more}
     words = ["git", *(word for it in SAFELY for word in ("-c", it)), *at, *words]
     try:
-        return run(words, given, env=environment) if most is None else run_up_to(most, words, env=environment)
+        return run(words, given, most, env=environment)
     except OSError as fault:
         raise Stop(127, f"git can't be run ({fault.strerror}): install it") from None
 
 
 def look_for_git():
-    """Stops where there is no git, or too old a one."""
     status, said, faults = called(("--version",), ("-C", "/"))
     found = re.match(rb"git version (\d+)\.(\d+)", said)
     if status != 0 or not found:
@@ -66,16 +65,16 @@ def top_around(folder):
 
 
 def is_in(path, top):
-    """Returns whether a path leads to a folder, or into it."""
     return os.path.join(os.path.realpath(path), "").startswith(os.path.join(os.path.realpath(top), ""))
 
 
-def asked(top, option):
-    """Returns the real path that git tells of a work tree."""
-    status, said, faults = called(("rev-parse", option), ("-C", top))
-    if status != 0:
-        raise Stop(4, f"git takes {plain(top)} for no work tree: {faults.strip()}")
-    return os.path.realpath(os.path.join(top, os.fsdecode(said)[:-1]))
+def asked(top):
+    """Returns the real paths that git tells of a work tree: its repository, the one that it shares, and its top."""
+    status, said, faults = called(("rev-parse", "--absolute-git-dir", "--git-common-dir", "--show-toplevel"), ("-C", top))
+    paths = os.fsdecode(said).split("\n")[:-1]
+    if status != 0 or len(paths) != 3:
+        raise Stop(4, f"git takes {plain(top)} for no work tree: {faults.strip() or 'a path has a line feed'}")
+    return [os.path.realpath(os.path.join(top, it)) for it in paths]
 
 
 def led_to(path):
@@ -90,12 +89,11 @@ def led_to(path):
 @functools.lru_cache(maxsize=None)
 def check(top):
     """Stops where git takes another folder than the `.git` of a work tree for its repository, or another work tree."""
-    told, wanted = asked(top, "--absolute-git-dir"), led_to(os.path.join(top, ".git"))
+    (told, _, shown), wanted = asked(top), led_to(os.path.join(top, ".git"))
     if told != wanted:
         raise Stop(4, f"git takes {plain(told)} for the repository, and not {plain(wanted)}, where {plain(os.path.join(top, '.git'))} leads")
-    told = asked(top, "--show-toplevel")
-    if told != os.path.realpath(top):
-        raise Stop(4, f"git takes {plain(told)} for the top of the work tree, which is {plain(top)}")
+    if shown != os.path.realpath(top):
+        raise Stop(4, f"git takes {plain(shown)} for the top of the work tree, which is {plain(top)}")
     check_settings(top)
 
 
@@ -129,8 +127,7 @@ def check_current(top):
 def check_environment(top):
     """Stops where the environment names another repository or work tree. A hook's names the one that it is called for."""
     here = os.getcwd()
-    wanted = {"GIT_DIR": asked(top, "--absolute-git-dir"), "GIT_COMMON_DIR": asked(top, "--git-common-dir"), "GIT_WORK_TREE": os.path.realpath(top)}
-    for name, it in wanted.items():
+    for name, it in zip(("GIT_DIR", "GIT_COMMON_DIR", "GIT_WORK_TREE"), asked(top)):
         said = os.environ.get(name)
         found = led_to(os.path.join(here, said)) if said else it
         if found != it:
@@ -148,7 +145,6 @@ class Repository:
 
     @classmethod
     def here(cls):
-        """Returns the repository of the current folder."""
         look_for_git()
         try:
             top = top_around(os.getcwd())
@@ -164,7 +160,6 @@ class Repository:
 
     @classmethod
     def below(cls, top):
-        """Returns the repository of a submodule, or of another folder with a `.git`."""
         check(top)
         return cls(top)
 
@@ -172,7 +167,6 @@ class Repository:
         return called(words, at or self.at, self.dropped, **{**self.more, **how})
 
     def must(self, *words, **how):
-        """Returns what git prints. The run stops where git fails."""
         status, said, faults = self.call(*words, **how)
         if status is None:
             raise Stop(3, f"git {words[0]} lists more than {MOST_LISTED:,} bytes of paths in {plain(self.top)}: gate a folder below it")
@@ -181,7 +175,6 @@ class Repository:
         return said
 
     def items(self, *words):
-        """Returns the items that git lists, each with a zero byte behind it."""
         return os.fsdecode(self.must(*words, most=MOST_LISTED)).split("\0")[:-1]
 
     def from_top(self, folder):
@@ -193,7 +186,6 @@ class Repository:
     # Revisions.
 
     def commit_of(self, revision):
-        """Returns the full name of a revision's commit."""
         if not revision:
             raise Stop(4, "REVISION is empty: the command or variable that it comes from gave nothing")
         status, said, faults = self.call("rev-parse", "--verify", "--quiet", "--end-of-options", f"{revision}^{{commit}}")
@@ -204,7 +196,6 @@ class Repository:
         raise Stop(4, faults.strip() or f"git has no revision {plain(revision)} here{meant}{self.how_to_fetch(revision)}")
 
     def how_to_fetch(self, revision):
-        """Returns what fetches a revision that isn't here, for a message."""
         remotes = os.fsdecode(self.must("remote")).split()
         if not remotes:
             return ""
@@ -214,8 +205,10 @@ class Repository:
             what = f"+{revision[len(remote) + 1:]}:refs/remotes/{revision}"
         return plain(f" To fetch it: git fetch --depth 1 {remote} {what} (in a fork, name the project's address in the place of {remote})")
 
+    def tags(self):
+        return os.fsdecode(self.must("for-each-ref", "--sort=creatordate", "--format=%(refname:strip=2)", "refs/tags")).splitlines()
+
     def merge_base(self, branch):
-        """Returns the commit where the work tree's history left a branch."""
         status, said, faults = self.call("merge-base", self.commit_of(branch), self.commit_of("HEAD"))
         if status != 0:
             raise Stop(4, faults.strip() or f"{plain(branch)} and HEAD have no commit in common here: git fetch --unshallow, or fetch more of both")
@@ -264,11 +257,6 @@ class Repository:
         if any("=" in it for it in keys):
             raise Stop(4, f"git's settings have a hook whose name has =, which can't be turned off: {plain(', '.join(keys))}")
         return (*self.at, *(word for it in keys for word in ("-c", f"{it}.enabled=false")))
-
-    def hashed(self, paths):
-        """Returns the names that the bytes of files have for git, as they are: no filter runs, and no attribute counts."""
-        quoted = "".join('"' + it.replace("\\", "\\\\").replace('"', '\\"') + '"\n' for it in paths)
-        return os.fsdecode(self.must("hash-object", "--no-filters", "--stdin-paths", given=os.fsencode(quoted))).split()
 
     def encoded(self, tree, paths, room):
         """Returns which files of a tree have another encoding in a checkout, by the attributes that it has itself."""

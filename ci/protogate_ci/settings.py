@@ -6,6 +6,7 @@ A change doesn't decide about itself: the file counts as it was at the top of th
 import codecs
 import datetime
 import fnmatch
+import json
 import os
 import re
 import stat
@@ -17,21 +18,54 @@ from .snapshot import FILES
 from .sources import read_file
 
 FILE = "protogate.ini"
-LISTS = ("folder", "include", "releases", "strict")
 COMPATIBILITIES = tuple(it + more for it in ("backward", "forward", "full") for more in ("", "-transitive"))
 CASES = ("unlike", "value", "name", "list-to-one", "map", "map-key", "map-value", "oneof")
-# What a key may say, where that is one of a few words.
-WORDS = {"view": ("numbers", "names"), "compatibility": COMPATIBILITIES, "case": CASES, "with-protoc": ("yes", "no")}
-# By the kind of a section, its keys. All but those of [gate] are needed.
-KEYS = {"gate": (*LISTS, "compatibility", "view", "with-protoc", "time-limit"), "for": ("compatibility",), "skip": ("reason", "until"),
-        "accept": ("case", "old", "new", "reason", "until")}
 # As many bytes the file has at most, days a skip goes on, seconds a program has, and as much of what is wrong is shown.
 MOST_BYTES, MOST_DAYS, MOST_SECONDS, MOST_SHOWN = 1_000_000, 366, 86_400, 200
 # A mark of what a name is: `type:shop.Draft`, `path:drafts`.
 KINDS = ("type", "path")
 WAYS = "--base REVISION, --settings FILE and --no-settings name others"
-# In place of the bytes of what is no file. No settings that count have a zero byte.
-NO_FILE = b"\0"
+BASELINE = {"format": "protogate-ci-baseline", "version": 1}
+
+
+# What a key says. Each of these returns it, or says what it may be.
+
+
+def lines(said):
+    return [it.strip() for it in said.split("\n") if it.strip()]
+
+
+def words(said):
+    return " ".join(said.split())
+
+
+def one_of(*known):
+    def read(said):
+        if said not in known:
+            raise ValueError(f"{', '.join(known[:-1])} or {known[-1]}")
+        return said
+    return read
+
+
+def seconds(said):
+    if not re.fullmatch("[0-9]{1,5}", said) or not 1 <= int(said) <= MOST_SECONDS:
+        raise ValueError(f"a number of seconds from 1 to {MOST_SECONDS}")
+    return int(said)
+
+
+def day(said):
+    if not re.fullmatch(r"\d{4}-\d\d-\d\d", said, re.A):
+        raise ValueError("a day such as 2026-12-31")
+    return datetime.date.fromisoformat(said)
+
+
+# By the kind of a section, its keys, and whether all of them are needed.
+KEYS = {
+    "gate": {"folder": lines, "include": lines, "releases": lines, "strict": lines, "compatibility": one_of(*COMPATIBILITIES), "time-limit": seconds,
+             "view": one_of("numbers", "names"), "with-protoc": one_of("yes", "no")},
+    "for": {"compatibility": one_of(*COMPATIBILITIES)}, "skip": {"reason": words, "until": day},
+    "accept": {"case": one_of(*CASES), "old": words, "new": words, "reason": words, "until": day},
+}
 
 
 class Skip(NamedTuple):
@@ -44,7 +78,6 @@ class Skip(NamedTuple):
 
     @property
     def kind(self):
-        """The kind that the name says, or nothing."""
         kind, mark, _ = self.said.partition(":")
         return kind if mark and kind in KINDS else None
 
@@ -61,7 +94,7 @@ class Accepted(NamedTuple):
     old: str
     new: str
     shown: str
-    until: datetime.date
+    until: Optional[datetime.date]
     reason: str
 
 
@@ -71,7 +104,7 @@ class Settings:
     def __init__(self, data=b"", name=FILE, whence="", today=None):
         self.name, self.whence, self.today = name, whence, today or datetime.date.today()
         # What [gate] says by its keys, the compatibility by types or paths, and what is skipped or accepted, also where its last day is over.
-        self.lines, self.said, self.by_name, self.skips, self.accepted = {}, {}, {}, [], []
+        self.said, self.by_name, self.skips, self.accepted = {}, {}, [], []
         self.read(data)
 
     def stop(self, line, why):
@@ -81,27 +114,22 @@ class Settings:
         """Reads sections with keys: as configparser does, but in a time that grows with the file's length alone, and up to the first fault."""
         sections, section, key, depth = {}, None, None, 0
         for number, line in enumerate(self.text_of(data).split("\n"), 1):
-            words, indent = line.strip(), len(line) - len(line.lstrip())
-            if not words or words[0] in "#;":
+            said, indent = line.strip(), len(line) - len(line.lstrip())
+            if not said or said[0] in "#;":
                 continue
             if key and indent > depth:
-                sections[section][key].append(words)
+                sections[section][1][key][1].append(said)
                 continue
-            section, key, depth = *self.begun(words, number, section, sections), indent
-        for name, values in sections.items():
-            self.take(name, {key: "\n".join(it).strip() for key, it in values.items()})
-
-    def begun(self, words, number, section, sections):
-        """Notes the section or the key that a line begins. Returns the section, and the key if there is one."""
-        is_section = words[0] == "[" and "]" in words
-        name, mark, value = (words[1:].rpartition("]")[0], "]", "") if is_section else (it.strip() for it in words.partition("="))
-        there = sections if is_section else sections.get(section)
-        if there is None or not (mark and name) or name in there:
-            why = "there is no section yet" if there is None else "it is there already" if mark and name else "there is no `=`, and no section"
-            raise self.stop(number, f"this is no setting: {why}")
-        there[name] = {} if is_section else [value]
-        self.lines[(name, None) if is_section else (section, name)] = number
-        return (name, None) if is_section else (section, name)
+            is_section = said[0] == "[" and "]" in said
+            name, mark, value = (said[1:].rpartition("]")[0], "]", "") if is_section else (it.strip() for it in said.partition("="))
+            there = sections if is_section else sections[section][1] if section is not None else None
+            if there is None or not (mark and name) or name in there:
+                why = "there is no section yet" if there is None else "it is there already" if mark and name else "there is no `=`, and no section"
+                raise self.stop(number, f"this is no setting: {why}")
+            there[name] = (number, {}) if is_section else (number, [value])
+            section, key, depth = (name, None, indent) if is_section else (section, name, indent)
+        for name, (number, values) in sections.items():
+            self.take(name, number, {key: (line, "\n".join(it).strip()) for key, (line, it) in values.items()})
 
     def text_of(self, data):
         """Returns the lines of the file. A mark of UTF-8 at its beginning says nothing."""
@@ -115,74 +143,43 @@ class Settings:
         except UnicodeDecodeError as fault:
             raise self.stop(text.count(b"\n", 0, fault.start) + 1, "the file isn't UTF-8") from None
 
-    def take(self, section, values):
-        """Takes what a section says, once its keys and their values are what they may be."""
+    def take(self, section, number, values):
         kind, _, name = section.partition(" ")
-        name, line = name.strip(), self.lines[section, None]
+        name, shown = name.strip(), section[:MOST_SHOWN]
         if kind not in KEYS or bool(name) == (kind == "gate"):
-            raise self.stop(line, f"there is no section [{section[:MOST_SHOWN]}]; there are [gate] and [skip|accept|for NAME]")
-        for key, value in values.items():
-            if key not in KEYS[kind]:
-                more = did_you_mean(key, KEYS[kind])
-                raise self.stop(self.lines[section, key], f"there is no key {key[:MOST_SHOWN]} in [{section[:MOST_SHOWN]}]{more}")
-            self.check(section, key, value)
+            raise self.stop(number, f"there is no section [{shown}]; there are [gate] and [skip|accept|for NAME]")
         if kind == "for" and name.partition(":")[0] not in KINDS:
-            raise self.stop(line, "[for NAME] is [for type:PATTERN] or [for path:FOLDER]")
-        lacking = [it for it in KEYS[kind] if it not in values] if kind != "gate" else []
+            raise self.stop(number, "[for NAME] is [for type:PATTERN] or [for path:FOLDER]")
+        said = {key: self.value(kind, shown, key, *it) for key, it in values.items()}
+        lacking = [it for it in KEYS[kind] if it not in said] if kind != "gate" else []
         if lacking:
-            raise self.stop(line, f"[{section[:MOST_SHOWN]}] has no {lacking[0]}")
-        self.note(kind, name, section, {key: self.value(section, key, it) for key, it in values.items()})
-
-    def check(self, section, key, value):
-        at = self.lines[section, key]
-        if not value:
-            raise self.stop(at, f"{key} says nothing")
-        if key in WORDS and value not in WORDS[key]:
-            raise self.stop(at, f"{key} is {', '.join(WORDS[key][:-1])} or {WORDS[key][-1]}, not {value[:MOST_SHOWN]}")
-
-    def value(self, section, key, said):
-        """Returns what a key says: a list, a number, a day, or words."""
-        try:
-            return values_of(key, said, self.today)
-        except ValueError as fault:
-            raise self.stop(self.lines[section, key], f"{key} is {fault}, not {said[:MOST_SHOWN]}") from None
-
-    def note(self, kind, name, section, said):
-        shown = f"{self.name}:{self.lines[section, None]}: the {kind} of {name}"
+            raise self.stop(number, f"[{shown}] has no {lacking[0]}")
+        more = {"shown": f"{self.name}:{number}: the {kind} of {name}", **said}
         if kind == "gate":
             self.said = said
         elif kind == "for":
             self.by_name[name] = said["compatibility"]
         elif kind == "skip":
-            self.skips.append(Skip(name, shown, **said))
+            self.skips.append(Skip(name, **more))
         else:
-            self.accepted.append(Accepted(name, shown=shown, **said))
+            self.accepted.append(Accepted(name, **more))
+
+    def value(self, kind, shown, key, line, said):
+        if key not in KEYS[kind]:
+            raise self.stop(line, f"there is no key {key[:MOST_SHOWN]} in [{shown}]{did_you_mean(key, KEYS[kind])}")
+        if not said:
+            raise self.stop(line, f"{key} says nothing")
+        try:
+            found = KEYS[kind][key](said)
+            if key == "until" and (found - self.today).days > MOST_DAYS:
+                raise ValueError(f"at most {MOST_DAYS} days ahead")
+            return found
+        except ValueError as fault:
+            raise self.stop(line, f"{key} is {fault}, not {said[:MOST_SHOWN]}") from None
 
     def is_over(self, told):
         """Returns whether a skip, or what is accepted, has ended: its last day counts."""
         return told.until is not None and self.today > told.until
-
-
-def values_of(key, said, today):
-    if key in LISTS:
-        return [it.strip() for it in said.split("\n") if it.strip()]
-    if key == "time-limit":
-        return seconds(said)
-    if key != "until":
-        return " ".join(said.split())
-    if not re.fullmatch(r"\d{4}-\d\d-\d\d", said, re.A):
-        raise ValueError("a day such as 2026-12-31")
-    until = datetime.date.fromisoformat(said)
-    if (until - today).days > MOST_DAYS:
-        raise ValueError(f"at most {MOST_DAYS} days ahead")
-    return until
-
-
-def seconds(said):
-    """Returns the seconds that a word says."""
-    if not re.fullmatch("[0-9]{1,5}", said) or not 1 <= int(said) <= MOST_SECONDS:
-        raise ValueError(f"a number of seconds from 1 to {MOST_SECONDS}")
-    return int(said)
 
 
 def unmarked(data):
@@ -198,13 +195,12 @@ def releases_of(said, tags):
         last = re.fullmatch(r"last ([1-9][0-9]{0,5})", it)
         if last:
             found = found[-int(last[1]):]
-        elif any(mark in it for mark in "*?["):
-            matching = [tag for tag in tags if fnmatch.fnmatchcase(tag, it)]
-            if not matching:
-                raise Stop(4, f"no tag is like {plain(it)}")
-            found += [tag for tag in matching if tag not in found]
-        else:
-            found += [it] if it not in found else []
+            continue
+        is_pattern = any(mark in it for mark in "*?[")
+        named = [tag for tag in tags if fnmatch.fnmatchcase(tag, it)] if is_pattern else [it]
+        if not named:
+            raise Stop(4, f"no tag is like {plain(it)}")
+        found += [tag for tag in named if tag not in found]
     return found
 
 
@@ -223,53 +219,45 @@ class Base(NamedTuple):
         return Settings(self.data or b"", self.name, whence)
 
 
-def of_revision(repository, revision):
-    """Returns the settings of a revision. What isn't a file there is none."""
-    listed = repository.tree(repository.commit_of(revision), [FILE])
+def file_of(repository, revision, path=FILE):
+    """Returns the bytes of a file as it was at a revision, or nothing where there is none. A link isn't followed."""
+    listed = repository.tree(repository.commit_of(revision), [path])
     if not listed:
-        return Base(None, FILE, revision)
+        return None
     _, mode, name = listed[0]
-    if mode not in FILES:
-        raise Stop(4, f"{FILE} is no file at {plain(revision)}: {WAYS}")
-    size = repository.sizes([name])[name]
-    if size is None or size > MOST_BYTES:
-        raise Stop(4, f"{FILE}:1: the file has over {MOST_BYTES:,} bytes at {plain(revision)}, or isn't here: {WAYS}")
-    return Base(dict(repository.blobs({name: size}))[name], FILE, revision)
+    size = repository.sizes([name])[name] if mode in FILES else 0
+    if mode not in FILES or size is None or size > MOST_BYTES:
+        why = "is no file" if mode not in FILES else f"has over {MOST_BYTES:,} bytes, or isn't here,"
+        raise Stop(4, f"{plain(path)} {why} at {plain(revision)}: {WAYS}")
+    return dict(repository.blobs({name: size}))[name]
 
 
-def of_file(path):
-    """Returns the settings of a file for which the caller vouches."""
+def read_named(option, path):
     try:
-        return Base(read_file(path, MOST_BYTES), os.path.normpath(path))
+        return read_file(path, MOST_BYTES)
     except OSError as fault:
-        raise Stop(4, f"--settings: {plain(path)} can't be read ({fault.strerror})") from None
-
-
-def own(repository):
-    """Returns the bytes of the work tree's own settings, or nothing where it has none. What is no file there has none that can be read."""
-    path = os.path.join(repository.top, FILE)
-    if os.path.lexists(path):
-        return read_file(path, MOST_BYTES) if stat.S_ISREG(os.lstat(path).st_mode) else NO_FILE
-    # (what a sparse checkout leaves out is as git's index has it)
-    if any(state == "S" for _, state, _ in repository.index(FILE)):
-        return repository.must("cat-file", "blob", f":{FILE}")
-    return None
+        raise Stop(4, f"{option}: {plain(path)} can't be read ({fault.strerror})") from None
 
 
 def difference(base, repository):
     """Returns what is said where the work tree's own settings aren't those that count, or nothing."""
-    mine = own(repository)
-    if mine is None and (base.data is None or base.revision is None):
-        return None
-    if None not in (mine, base.data) and unmarked(mine) == unmarked(base.data):
-        return None
+    path, mine = os.path.join(repository.top, FILE), None
+    if os.path.lexists(path):
+        # (no settings that count have a zero byte)
+        mine = read_file(path, MOST_BYTES) if stat.S_ISREG(os.lstat(path).st_mode) else b"\0"
+    elif any(state == "S" for _, state, _ in repository.index(FILE)):
+        mine = repository.must("cat-file", "blob", f":{FILE}")
     if base.revision is None:
-        return f"{FILE} of the work tree isn't read: {plain(base.name)} counts"
+        return f"{FILE} of the work tree isn't read: {plain(base.name)} counts" if mine is not None and mine != base.data else None
     at = plain(base.revision)
-    if mine is None:
-        return f"{FILE} is missing in the work tree, and that of {at} counts ({WAYS})"
-    why = f"{at} has none" if base.data is None else f"it differs from that of {at}, which counts"
-    return f"{FILE} of the work tree isn't read: {why} ({WAYS})"
+    if mine is None or base.data is None:
+        why = f"is missing in the work tree, and that of {at} counts" if mine is None else f"of the work tree isn't read: {at} has none"
+        return f"{FILE} {why} ({WAYS})" if mine != base.data else None
+    differs = unmarked(mine) != unmarked(base.data)
+    return f"{FILE} of the work tree isn't read: it differs from that of {at}, which counts ({WAYS})" if differs else None
+
+
+# What is left out, and what is accepted.
 
 
 class Skips:
@@ -283,18 +271,54 @@ class Skips:
         self.types = {it.name for it in skips if it.kind != "path"}
         self.paths = {it.name for it in skips if it.kind != "type"}
 
-    def refuse(self, types):
-        """Stops where the call names a type that is left out: there would be no answer for it."""
-        for skip in (it for name in types for it in self.skips if it.kind != "path" and it.name == name):
-            raise Stop(4, f"{plain(skip.name)} is named, and left out too: {plain(skip.shown)}")
-
     def told(self, types, paths):
-        """Returns each skip that names one of these types or paths, with its kind, and those that name nothing. The paths are as they are, or as
-        they are printed. A name that is both says neither."""
-        there, found, idle = {"type": types, "path": paths}, [], []
+        """Returns the skips that name one of these types or paths, and those that name nothing. The paths are as they are, or as they are printed. A
+        name that is both says neither."""
+        there, found = {"type": types, "path": paths}, ([], [])
         for skip in self.skips:
             kinds = [it for it in KINDS if skip.kind in (None, it) and skip.name in there[it]]
             if len(kinds) > 1:
                 raise Stop(4, f"{plain(skip.shown)} is the name of a type and of a path: write type:{plain(skip.name)} or path:{plain(skip.name)}")
-            (found if kinds else idle).append((skip, *kinds))
-        return found, [it for it, in idle]
+            found[not kinds].append(skip)
+        return found
+
+
+def keys_of(cause):
+    """Returns what accepts each field of a cause: a cause of several fields is accepted where each of them is."""
+    return [(old.name, cause.why, old.element, new.element) for _, old, new in cause.fields]
+
+
+class Acceptance:
+    """What is accepted, and which of it was found."""
+
+    def __init__(self, settings, baseline):
+        self.over = [it for it in settings.accepted if settings.is_over(it)]
+        # (a reason goes before a baseline)
+        self.known = {it[:4]: it for it in (*baseline, *settings.accepted) if it not in self.over}
+        self.taken = set()
+
+    def of(self, cause):
+        keys = keys_of(cause)
+        if any(it not in self.known for it in keys):
+            return []
+        self.taken.update(keys)
+        return list(dict.fromkeys(self.known[it] for it in keys))
+
+    def idle(self):
+        return [it for key, it in self.known.items() if key not in self.taken]
+
+
+def read_baseline(data, shown):
+    try:
+        found = json.loads(data.decode()) if len(data) <= MOST_BYTES else {}
+        rows = [tuple(it[key] for key in Accepted._fields[:4]) for it in found["accepted"]]
+        if any(found[key] != it for key, it in BASELINE.items()) or not all(isinstance(word, str) for row in rows for word in row):
+            raise ValueError
+    except (ValueError, TypeError, KeyError, RecursionError):
+        raise Stop(4, f"{plain(shown)} is no baseline: --write-baseline makes one") from None
+    return [Accepted(*row, shown=shown, until=None, reason=f"It is in {plain(shown)}.") for row in rows]
+
+
+def baseline_of(causes):
+    rows = sorted({row for cause in causes for row in keys_of(cause)})
+    return (json.dumps({**BASELINE, "accepted": [dict(zip(Accepted._fields, row)) for row in rows]}, indent=1) + "\n").encode()

@@ -4,8 +4,9 @@ Paths count from the top of the repository, and only those below the folders tha
 it seems, is in `closed`, with the kind and the reason: it isn't laid out, and nothing takes its place.
 """
 
+import hashlib
+import itertools
 import os
-import shutil
 from collections import deque
 from typing import Any, NamedTuple
 
@@ -46,7 +47,6 @@ class Way:
         self.target_of, self.steps = target_of, 0
 
     def end_of(self, path):
-        """Returns a path without links."""
         pending, at, links = path.split("/")[::-1], "", 0
         while pending:
             part, self.steps = pending.pop(), self.steps + 1
@@ -89,7 +89,6 @@ class Snapshot:
         for path in [it for it in self.entries if is_below(os.path.dirname(it), self.closed)]:
             self.entries.pop(path)
         self.follow()
-        self.source.settle(self, [it for it in self.needed() if it in self.entries])
 
     # What the source says.
 
@@ -122,7 +121,6 @@ class Snapshot:
             path = os.path.dirname(path)
 
     def close(self, path, kind, why):
-        """Notes that a path isn't laid out."""
         self.entries.pop(path, None)
         self.links.pop(path, None)
         self.closed[path] = (kind, f"{plain(path or '.')} {why}")
@@ -194,27 +192,15 @@ class Snapshot:
         return any(is_below(folder, (it,)) and not is_hidden(within(folder, it)) for it in self.roots)
 
     def inner(self):
-        """Returns the names in each folder."""
         names = {}
         for path in sorted({*self.entries, *self.folders} - {""}):
             names.setdefault(os.path.dirname(path), []).append(os.path.basename(path))
         return names
 
     def refused(self, skipped=()):
-        """Returns what the gated folders have and can't be read, unless it is skipped, with the kind and the reason; and all such things whose place
-        another would take."""
-        told = {path: why for path, why in self.closed.items() if self.sees(os.path.dirname(path) if is_text(path) else path)}
-        return {**{path: why for path, why in told.items() if not is_skipped(path, skipped)}, **self.shadowed()}
-
-    def shadowed(self):
-        """Returns what a folder has and can't be read, where a later one has something by the same name: a change could put that in its place."""
-        found, roots = {}, list(dict.fromkeys([*self.roots, *self.includes]))
-        for at, root in enumerate(roots):
-            for path, why in self.closed.items():
-                inner = within(path, root) if is_below(path, (root,)) else ""
-                if inner and any(self.has(os.path.join(it, inner)) for it in roots[at + 1:]):
-                    found[path] = why
-        return found
+        """Returns what the gated folders have and can't be read, unless it is skipped, with the kind and the reason."""
+        return {path: why for path, why in self.closed.items()
+                if self.sees(os.path.dirname(path) if is_text(path) else path) and not is_skipped(path, skipped)}
 
     def has(self, path):
         return path in self.entries or path in self.folders
@@ -227,54 +213,40 @@ class Snapshot:
     # What is laid out.
 
     def lay(self, into, laid):
-        """Lays what is needed out below a folder, and links as they lead in it. `laid` has where each blob lies already, on either side: equal
-        files are one, whatever their names. A file that git hasn't here is closed by this."""
-        needed, paths, stores = sorted(self.needed()), {}, {}
-        for path in needed:
-            paths.setdefault(self.entries[path].blob, []).append(path)
-            stores.setdefault(self.entries[path].blob, self.entries[path].store)
+        """Lays what is needed out below a folder, and links as they lead in it. A file whose bytes aren't here is closed by this. `laid` has by their
+        hash where bytes lie already, on any side: another name for a file costs much less than another file."""
+        needed, stores, total = sorted(self.needed()), {}, 0
         for folder in {os.path.dirname(it) for it in (*needed, *self.links)}:
             os.makedirs(os.path.join(into, folder), exist_ok=True)
-        for store in set(stores.values()):
-            self.lay_blobs(into, store, {blob: paths[blob] for blob, it in stores.items() if it is store}, laid)
+        for path in needed:
+            stores.setdefault(self.entries[path].store, {}).setdefault(self.entries[path].blob, []).append(path)
+        for store, paths in stores.items():
+            sizes = store.sizes(list(paths))
+            short = {blob: size for blob, size in sizes.items() if size is not None and size <= MOST_BYTES}
+            total += sum(size * len(paths[blob]) for blob, size in short.items())
+            if total > MOST_OF_ALL:
+                raise Stop(3, f"{self.source.shown} has more than {MOST_OF_ALL:,} bytes of source files: gate a folder below it")
+            # (the program refuses by its size what is too long, whatever it holds)
+            for blob, data in itertools.chain(((it, None) for it in sizes if it not in short), store.blobs(short)):
+                for path in paths[blob]:
+                    if sizes[blob] is None:
+                        self.close(path, "file", "isn't here, or can't be read: git may not have fetched what it holds")
+                    else:
+                        lay_file(os.path.join(into, path), data, laid)
         for path, real in self.links.items():
             os.symlink(os.path.relpath(os.path.join("/", real), os.path.join("/", os.path.dirname(path))), os.path.join(into, path))
 
-    def lay_blobs(self, into, store, paths, laid):
-        sizes = store.sizes([it for it in paths if it not in laid])
-        short = {blob: size for blob, size in sizes.items() if size is not None and size <= MOST_BYTES}
-        if sum(short.values()) > MOST_OF_ALL:
-            raise Stop(3, f"{self.source.shown} has more than {MOST_OF_ALL:,} bytes of source files: gate a folder below it")
-        for blob, data in store.blobs(short):
-            laid[blob] = write(os.path.join(into, paths[blob][0]), data)
-        for blob, there in paths.items():
-            if sizes.get(blob, 0) is None:
-                for path in there:
-                    self.close(path, "file", "isn't here: git has not fetched what it holds")
-                continue
-            # The program refuses by its size what is too long, whatever it holds.
-            at = laid.get(blob) or laid.get(None) or laid.setdefault(None, write(os.path.join(into, there[0]), b"", MOST_BYTES + 1))
-            for path in (os.path.join(into, it) for it in there):
-                if path != at and not is_linked(at, path):
-                    shutil.copyfile(at, path)
-                    at = path
 
-
-def write(path, data, size=0):
-    """Writes a new file, with zeros up to a size, and returns its path."""
-    with open(path, "xb") as file:
-        file.write(data)
-        file.truncate(max(size, len(data)))
-    return path
-
-
-def is_linked(file, path):
-    """Returns whether a file has one more name now: there may be a limit to that."""
+def lay_file(path, data, laid):
+    """Writes a file. Without bytes it is one that is too long."""
+    key = None if data is None else hashlib.sha256(data).digest()
     try:
-        os.link(file, path)
-    except OSError:
-        return False
-    return True
+        os.link(laid[key], path)
+    except (KeyError, OSError):
+        with open(path, "xb") as file:
+            file.write(data or b"")
+            file.truncate(MOST_BYTES + 1 if data is None else None)
+        laid[key] = path
 
 
 def root_of(source, folder, may_be_missing=False):
@@ -303,12 +275,10 @@ def is_text(path):
 
 
 def is_hidden(path):
-    """Returns whether a folder is hidden, or in one that is."""
     return any(it.startswith(".") and it not in (".", "..") for it in path.split("/"))
 
 
 def within(path, folder):
-    """Returns a path as it counts from a folder around it."""
     return path[len(folder):].lstrip("/")
 
 

@@ -56,7 +56,6 @@ class Tree:
         return [os.path.join(top, path) for path, mode, _ in listed if mode == FOLDER]
 
     def files_among(self, paths):
-        """Returns which paths are files in this tree."""
         paths = sorted(it for it in paths if "\0" not in it)
         listed = [it for at in range(0, len(paths), MOST_ASKED) for it in self.repository.tree(self.tree, paths[at : at + MOST_ASKED])]
         return {path for path, mode, _ in listed if mode in FILES}
@@ -95,9 +94,6 @@ class Tree:
             return []
         return repository.encoded(tree, [path for path, mode, _ in listed if mode in FILES], self.room)
 
-    def settle(self, snapshot, paths):
-        """All is named already, and can be read."""
-
 
 def read_links(repository, names):
     """Returns what links say, or nothing of one that is too long or not here."""
@@ -122,10 +118,10 @@ def is_not_here(path, commit):
 
 
 class Folder:
-    """A folder as it is now. It is a store too: a blob has its file's whole path for its name, or one that `files` has."""
+    """A folder as it is now. It is a store too: a blob has its file's whole path for its name."""
 
     def __init__(self, top, shown):
-        self.top, self.shown, self.count, self.files = os.path.abspath(top), shown, 0, {}
+        self.top, self.shown, self.count = os.path.abspath(top), shown, 0
 
     def at(self, path):
         return os.path.join(self.top, path)
@@ -172,19 +168,12 @@ class Folder:
             snapshot.close(path, "file", "is no regular file")
         return []
 
-    def settle(self, snapshot, paths):
-        """Closes what can't be read. Returns the others."""
-        for path in paths:
-            if not os.access(self.at(path), os.R_OK):
-                snapshot.close(path, "file", "can't be read")
-        return [it for it in paths if it in snapshot.entries]
-
     def sizes(self, blobs):
-        return {it: os.lstat(self.files.get(it, it)).st_size for it in blobs}
+        return {it: os.lstat(it).st_size if os.access(it, os.R_OK) else None for it in blobs}
 
     def blobs(self, sizes):
         for blob in sizes:
-            yield blob, read_file(self.files.get(blob, blob), MOST_BYTES)
+            yield blob, read_file(blob, MOST_BYTES)
 
 
 class WorkTree(Folder):
@@ -210,7 +199,6 @@ class WorkTree(Folder):
                 self.look_for(snapshot, path, state, mode)
 
     def is_submodule(self, around, path):
-        """Returns whether a folder is one, and checked out."""
         inner = within(path, around)
         is_there = inner and os.path.lexists(self.at(os.path.join(path, ".git")))
         return is_there and (inner, SUBMODULE) in [(it, mode) for it, _, mode in self.repositories[around].index(inner)]
@@ -241,21 +229,12 @@ class WorkTree(Folder):
             else:
                 snapshot.missing.add(path)
 
-    def settle(self, snapshot, paths):
-        """Gives the blobs of files that are laid out the names that git has for them. One that is too long isn't read."""
-        short = [it for it in super().settle(snapshot, paths) if os.lstat(self.at(it)).st_size <= MOST_BYTES]
-        for path, name in zip(short, self.repositories[""].hashed(short) if short else ()):
-            snapshot.entries[path] = snapshot.entries[path]._replace(blob=name)
-            self.files[name] = self.at(path)
-        return short
-
 
 def is_not_checked_out(path):
     return f"{plain(path)} is a submodule that isn't checked out: git submodule update --init {plain(path)}"
 
 
 def opened(path):
-    """Returns a regular file, opened to be read."""
     # (a fifo would be waited for)
     file = open(os.open(path, os.O_RDONLY | os.O_NONBLOCK | os.O_CLOEXEC), "rb")
     if not stat.S_ISREG(os.fstat(file.fileno()).st_mode):
@@ -265,7 +244,6 @@ def opened(path):
 
 
 def read_file(path, most):
-    """Returns the bytes of a file, and no more than one byte too many."""
     with opened(path) as file:
         return file.read(most + 1)
 

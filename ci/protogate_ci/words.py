@@ -11,6 +11,7 @@ from .running import plain
 WHY_PAGE, ERRORS_PAGE = "docs/COMPATIBILITY.md#why-it-breaks", "docs/ERRORS.md"
 # As many letters of a value are shown, and as many fields of a oneof are named.
 MOST_LETTERS, MOST_NAMED = 40, 8
+SIDES, OLD, NEW, AN = ("old", "new"), 0, 1, ("an old", "a new")
 
 
 class Finding(NamedTuple):
@@ -39,7 +40,6 @@ class Finding(NamedTuple):
 
     @property
     def words(self):
-        """All sentences, as one line."""
         return " ".join(it for it in (self.says, f"What to do: {self.mend}" if self.mend else "") if it)
 
 
@@ -73,45 +73,33 @@ def shown(item, element):
     """Returns an item as a person reads it, by the type of its field."""
     kind, _, value = item.partition(" ")
     value = "" if value == "-" else value
-    if kind == "key":
-        return f"the entry {plain(letters(item))}"
-    if kind == "msg":
-        return "a message"
+    made = {
+        "key": lambda: f"the entry {letters(item)}", "msg": lambda: "a message",
+        "bytes": lambda: f"the bytes {letters(value)}" if value else "no bytes",
+        "int": lambda: {"0": "false", "1": "true"}.get(value, value) if element == "bool" else str(int(value)),
+        "f32": lambda: repr(struct.unpack(">f", bytes.fromhex(value))[0]), "f64": lambda: repr(struct.unpack(">d", bytes.fromhex(value))[0]),
+        "text": lambda: letters(json.dumps(bytes.fromhex(value).decode(), ensure_ascii=False))}
     try:
-        if kind == "int":
-            return {"0": "false", "1": "true"}.get(value, value) if element == "bool" else str(int(value))
-        if kind in ("f32", "f64"):
-            return repr(struct.unpack(">f" if kind == "f32" else ">d", bytes.fromhex(value))[0])
-        if kind == "text":
-            return plain(letters(json.dumps(bytes.fromhex(value).decode(), ensure_ascii=False)))
-        if kind == "bytes":
-            return f"the bytes {plain(letters(value))}" if value else "no bytes"
-    except (ValueError, struct.error):
-        pass
-    return plain(letters(item))
+        return plain(made[kind]())
+    except (KeyError, ValueError, struct.error):
+        return plain(letters(item))
 
 
 def misread(cause):
     """Returns which value of the message that shows a cause is misread, and as what."""
-    writer, reader = ("old", "new") if cause.direction == BACKWARD else ("new", "old")
+    writer, reader = (OLD, NEW) if cause.direction == BACKWARD else (NEW, OLD)
     number, *fields = cause.fields[0]
-    was, now = (dict(zip(("old", "new"), fields))[it] for it in (writer, reader))
-    written, read = (items(cause.readings.get(it, ""), number) for it in (writer, reader))
+    written, read = (items(cause.readings[SIDES[it]], number) for it in (writer, reader))
     if not written or cause.why in ("name", "oneof"):
         return ""
-    values = listed([shown(it, was.element) for it in written], 3)
-    refused = re.match(r"refused (\w+)", cause.readings[reader])
+    was, now = (listed([shown(item, fields[at].element) for item in some], 3) if some else "" for at, some in ((writer, written), (reader, read)))
+    program = f"{AN[reader]} program"
+    refused = re.match(r"refused (\w+)", cause.readings[SIDES[reader]])
     if refused:
-        return f"a message with {values} is refused by {an(reader)} program ({refused[1]})"
+        return f"a message with {was} is refused by {program} ({refused[1]})"
     if not read:
-        return f"{values} {'is' if len(written) == 1 else 'are'} lost to {an(reader)} program"
-    if len(written) > len(read):
-        return f"of {values} {an(reader)} program keeps only {listed([shown(it, now.element) for it in read], 3)}"
-    return f"{values} is read as {listed([shown(it, now.element) for it in read], 3)} by {an(reader)} program"
-
-
-def an(side):
-    return "an old" if side == "old" else "a new"
+        return f"{was} {'is' if len(written) == 1 else 'are'} lost to {program}"
+    return f"of {was} {program} keeps only {now}" if len(written) > len(read) else f"{was} is read as {now} by {program}"
 
 
 # Causes.
@@ -125,24 +113,24 @@ WHY = {
 }
 
 
+def names_of(cause):
+    return listed([code(last(old.name)) for _, old, _ in cause.fields])
+
+
 def change_of(cause):
-    """Returns what changed at a field: its types, or its name too, where the number went to another field."""
     number, old, new = cause.fields[0]
+    types = f"{code(old.element)} to {code(new.element)}"
     if last(old.name) != last(new.name):
-        types = f", {code(old.element)} to {code(new.element)}" if old.element and new.element else ""
-        return f"number {number} was {code(last(old.name))} and is {code(last(new.name))} now{types}"
+        return f"number {number} was {code(last(old.name))} and is {code(last(new.name))} now, {types}"
     if cause.why == "list-to-one":
         return "a list became a single field" if cause.direction == BACKWARD else "a single field became a list"
-    return f"{code(old.element)} to {code(new.element)}" if old.element and new.element and old.element != new.element else ""
+    return types if old.element != new.element else ""
 
 
 def why(cause):
-    """Returns the sentence of a cause."""
     if cause.why == "oneof":
-        reader = "new" if cause.direction == BACKWARD else "old"
-        names = listed([code(last(old.name)) for _, old, _ in cause.fields])
-        words = f"{names} come into one oneof" if reader == "new" else f"{names} leave their oneof"
-        words += f": of those that a message has, {an(reader)} program keeps one alone"
+        come, reader = ("come into one oneof", NEW) if cause.direction == BACKWARD else ("leave their oneof", OLD)
+        words = f"{names_of(cause)} {come}: of those that a message has, {AN[reader]} program keeps one alone"
     else:
         words = ": ".join(it for it in (change_of(cause), misread(cause) or WHY.get(cause.why, cause.why)) if it)
     return f"{words[0].upper()}{words[1:]}."
@@ -153,26 +141,19 @@ def mend(cause, moved=None):
     number, old, new = cause.fields[0]
     name, is_backward = code(last(old.name)), cause.direction == BACKWARD
     if cause.why == "oneof":
-        names = listed([code(last(it.name)) for _, it, _ in cause.fields])
-        return f"Take {names} out of the oneof." if is_backward else f"Leave {names} in their oneof."
+        return f"Take {names_of(cause)} out of the oneof." if is_backward else f"Leave {names_of(cause)} in their oneof."
+    added = f"{code(('' if cause.why.startswith('map') else 'optional ') + f'{new.element} {last(old.name)}_new = N;')}"
+    kept = (f"ive it its type {code(old.element)} back, or keep it, add {added} with a number N that no field has had, and write both until every "
+            "program reads the new one.")
     if last(old.name) != last(new.name):
         there = f", which is at {moved} now," if moved is not None else ""
         return (f"Give {name}{there} number {number} back, and {code(last(new.name))} a number that no field has had. If it is the same field by "
-                f"another name, {kept(new, old, cause)}")
+                f"another name, g{kept}")
     if cause.why in ("name", "map-value") and old.element == new.element:
         return "Give the number its old name back, or give what is meant now a number of its own. Where both names mean the same, compare by numbers."
     if cause.why == "list-to-one":
         return f"Make {name} {'a list' if is_backward else 'a single field'} again, or keep it as it was and add the other with a new number."
-    words = kept(new, old, cause)
-    return words[0].upper() + words[1:]
-
-
-def kept(new, old, cause):
-    """Returns how a field keeps its type, and another one comes beside it."""
-    back = f"give it its type {code(old.element)} back" if old.element else "give it its old type back"
-    label = "" if cause.why.startswith("map") else "optional "
-    added = f"{code(f'{label}{new.element} {last(old.name)}_new = N;')} with" if new.element else "one of the new type with"
-    return f"{back}, or keep it, add {added} a number N that no field has had, and write both until every program reads the new one."
+    return f"G{kept}"
 
 
 # Notes.
@@ -189,7 +170,6 @@ NOTES = {
     "method-gone": "The method {old} was removed: calls of old clients fail.",
     "service-gone": "The method {old} went with its service: calls of old clients fail.",
     "method-changed": "The method {old} has another request or reply now, or another stream: old clients call it as it was.",
-    "twice": "A later folder has other bytes of the same path: the first one counts.",
 }
 
 

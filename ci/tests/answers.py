@@ -24,8 +24,8 @@ def fault(code="E205", file="a.proto", line=3, column=7, says="Unknown option.",
     return {"code": code, "file": file, "line": line, "column": column, "byte": byte, "says": says}
 
 
-def left_out(side="new", root="a.proto", **more):
-    return {"kind": "left-out", "side": side, "root": root, **fault(**more)}
+def left_out(side="new", root="a.proto", code="E205", file="a.proto", line=3, column=7, sentence="Unknown option."):
+    return {"kind": "left-out", "side": side, "root": root, "code": code, "file": file, "line": line, "column": column, "sentence": sentence}
 
 
 def refused(side="new", **more):

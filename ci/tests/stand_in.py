@@ -13,7 +13,7 @@ import subprocess
 import sys
 
 VARINTS = ("int32", "int64", "uint32", "uint64", "sint32", "sint64", "bool")
-PIECE = re.compile(r"message (\w+) \{|\}|(repeated |optional )?([\w.]+) (\w+) = (\d+);|reserved (\d+);")
+PIECE = re.compile(r"message (\w+) \{|service (\w+) \{|\}|(repeated |optional )?([\w.]+) (\w+) = (\d+);|rpc (\w+)\(([\w.]+)\) returns \(([\w.]+)\);")
 
 
 def say(**it):
@@ -26,7 +26,7 @@ class Fault(Exception):
 
 class Side:
     def __init__(self, role, folders, roots):
-        self.role, self.folders, self.types, self.left, self.files = role, folders, {}, [], {}
+        self.role, self.folders, self.types, self.left, self.files, self.methods = role, folders, {}, [], {}, {}
         self.refused = None
         for root in roots:
             if not root.endswith(".proto"):
@@ -37,7 +37,7 @@ class Side:
             except Fault as fault:
                 code, file, line, says = fault.args
                 self.left.append({"kind": "left-out", "side": role, "root": root, "code": code, "file": file, "line": line, "column": line and 1,
-                                  "byte": None, "says": says})
+                                  "sentence": says})
                 continue
             self.types.update(found)
 
@@ -60,16 +60,18 @@ class Side:
             imported = re.match('import "(.*)";', line)
             if imported:
                 found.update(self.read(imported[1], seen))
+            package = (re.search(r"package ([\w.]+);", text) or ["", ""])[1]
             for it in PIECE.finditer(line):
-                if it[1]:
-                    name = (re.search(r"package ([\w.]+);", text) or ["", ""])[1]
-                    name = f"{name}.{it[1]}".lstrip(".")
-                    found[name] = {}
-                elif it[4]:
-                    found[name][int(it[5])] = {"name": f"{name}.{it[4]}", "element": it[3], "file": file, "line": number, "column": it.start(4) + 1,
-                                               "label": it[2]}
+                if it[1] or it[2]:
+                    name = f"{package}.{it[1] or it[2]}".lstrip(".")
+                    found.update({name: {}} if it[1] else {})
+                elif it[5]:
+                    element = it[4] if it[4].islower() else f"{package}.{it[4]}".lstrip(".") if it[4][0] != "." else it[4][1:]
+                    found[name][int(it[6])] = {"name": f"{name}.{it[5]}", "element": element, "file": file, "line": number, "column": it.start(5) + 1,
+                                               "label": it[3]}
+                elif it[7]:
+                    self.methods[f"{name}.{it[7]}"] = (it[8], it[9], {"name": f"{name}.{it[7]}", "file": file, "line": number, "column": it.start(7) + 1})
         return found
-
 
     def read_set(self, path):
         """Reads a set. A file that isn't proto3, or that refers to what isn't there, refuses it."""
@@ -84,6 +86,12 @@ class Side:
             elif not set(re.findall(r'^  dependency: "(.*)"', it, re.M)) <= names - {"google/protobuf/descriptor.proto"}:
                 self.refused = self.refused or "E704"
             package = (re.search(r'^  package: "(.*)"', it, re.M) or ["", ""])[1]
+            for service in re.findall(r"^  service \{\n(.*?)^  \}", it, re.M | re.S):
+                about = f"{package}.{re.match('    name: .(.*).', service)[1]}".lstrip(".")
+                for one in re.findall(r"^    method \{\n(.*?)^    \}", service, re.M | re.S):
+                    told = dict(re.findall(r'^      (\w+): "(.*?)"$', one, re.M))
+                    at = {"name": f"{about}.{told['name']}", "file": None, "line": None, "column": None}
+                    self.methods[at["name"]] = (told["input_type"], told["output_type"], at)
             for message in re.findall(r"^  message_type \{\n(.*?)^  \}", it, re.M | re.S):
                 name = f"{package}.{re.match('    name: .(.*).', message)[1]}".lstrip(".")
                 self.types[name] = {}
@@ -109,32 +117,50 @@ def why(old, new):
     return "value" if {old["element"], new["element"]} <= {*VARINTS} or old["element"] == "bytes" and new["element"] == "string" else "unlike"
 
 
+def compare(call, old, new, names, known):
+    """Tells each cause of a pair of types, and of those that it leads to, once. Returns whether the pair breaks."""
+    if names in known:
+        return known[names]
+    known[names] = False
+    for number, was in old.types[names[0]].items():
+        now = new.types[names[1]].get(number)
+        if not now:
+            continue
+        if was["element"] in old.types and now["element"] in new.types:
+            known[names] |= compare(call, old, new, (was["element"], now["element"]), known)
+            continue
+        case = why(was, now)
+        if case:
+            known[names] = True
+            say(kind="cause", why=case, length=11, message="10ffffffffffffffffff01", number=number, old=field(was), new=field(now), others=[])
+            if call.explain:
+                say(kind="reading", side="old", text=f"{number} {was['name'].rpartition('.')[2]} int -1\nagain 10ffffffffffffffffff01\n")
+                say(kind="reading", side="new", text=f"{number} {now['name'].rpartition('.')[2]} int 4294967295\nagain 10ffffffff0f\n")
+    return known[names]
+
+
 def gate_all(call):
     old, new = (Side(role, [getattr(call, f"{role}_dir"), *getattr(call, f"{role}_include")], getattr(call, role)) for role in ("old", "new"))
     for side in (old, new):
         if side.refused:
             say(kind="refused", side=side.role, code=side.refused, file=None, line=None, column=None, byte=None, says="The set is refused.")
             return 2
-    bad, notes = set(), []
-    for name in [it for it in old.types if it in new.types]:
+    notes, known = [], {}
+    shared = [it for it in old.types if it in new.types]
+    for name in shared:
+        compare(call, old, new, (name, name), known)
         for number, was in old.types[name].items():
             now = new.types[name].get(number)
-            case = now and why(was, now)
-            if case:
-                bad.add(name)
-                say(kind="cause", why=case, length=11, message="10ffffffffffffffffff01", number=number, old=field(was), new=field(now), others=[])
-                if call.explain:
-                    say(kind="reading", side="old", text=f"{number} {was['name'].rpartition('.')[2]} int -1\nagain 10ffffffffffffffffff01\n")
-                    say(kind="reading", side="new", text=f"{number} {now['name'].rpartition('.')[2]} int 4294967295\nagain 10ffffffff0f\n")
-            elif not now:
+            if not now:
                 notes.append({"what": "number-unreserved", "number": number, "old": field(was), "new": None, "now": None})
-            if now and now["name"] != was["name"]:
+            elif now["name"] != was["name"]:
                 there = next((it for it, other in new.types[name].items() if other["name"] == was["name"]), None)
                 notes.append({"what": "field-renamed", "number": number, "old": field(was), "new": field(now), "now": there})
-    for _ in old.types:
-        bad |= {it for it in old.types if it in new.types and any(other["element"] in bad for other in old.types[it].values())}
-    for name in [it for it in old.types if it in new.types]:
-        say(kind="breaks", type=name, length=11) if name in bad else say(kind="compatible", type=name)
+    for name, (*types, was) in old.methods.items():
+        if name in new.methods and types != list(new.methods[name][:2]):
+            notes.append({"what": "method-changed", "number": None, "old": was, "new": new.methods[name][2], "now": None})
+    for name in shared:
+        say(kind="breaks", type=name, length=13 if name.startswith("Protogate") else 11) if known[name, name] else say(kind="compatible", type=name)
     removed = [it for it in old.types if it not in new.types]
     for name in removed:
         say(kind="removed", type=name)
@@ -144,7 +170,7 @@ def gate_all(call):
         say(**it)
     for it in notes if call.notes else ():
         say(kind="note", **it)
-    return 2 if removed or old.left or new.left else 1 if bad else 0
+    return 2 if removed or old.left or new.left else 1 if any(known.values()) else 0
 
 
 def main():
@@ -171,7 +197,7 @@ def main():
         parser.add_argument(f"--{flag}", action="store_true")
     parser.add_argument("--view", default="numbers")
     call = parser.parse_intermixed_args()
-    if not call.json:
+    if not call.json and call.subcommand != "compile":
         return 4
     for roots, path in ((call.files, call.files_from), (call.old, call.old_files_from), (call.new, call.new_files_from)):
         if path:
@@ -184,6 +210,10 @@ def main():
         for name in side.types:
             say(kind="declared", type=name)
         return 2 if side.left else 0
+    if call.subcommand == "compile":
+        sys.stdout.flush()
+        folders = [f"-I{it}" for it in (call.dir, *call.include)]
+        return subprocess.call(["protoc", *folders, "--include_imports", "--descriptor_set_out=/dev/stdout", *call.files])
     return gate_all(call)
 
 

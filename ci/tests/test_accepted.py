@@ -8,7 +8,7 @@ import unittest
 
 import common  # noqa: F401
 from test_gate import ORDER, PROTO, Gate
-from protogate_ci import accepted
+from protogate_ci import settings
 from protogate_ci.asking import BACKWARD, Cause, Field
 from protogate_ci.running import Stop
 from protogate_ci.settings import Settings
@@ -28,16 +28,15 @@ def cause(why, *fields):
 
 class Matching(unittest.TestCase):
     def of(self, text, it, baseline=()):
-        return accepted.Acceptance(Settings(text.encode()), baseline).of(it)
+        return settings.Acceptance(Settings(text.encode()), baseline).of(it)
 
     def test_nothing_else(self):
-        """Another field, case or type isn't accepted, nor one whose type isn't known."""
+        """Another field, case or type isn't accepted."""
         it = cause("value", (2, "Order.quantity", "int32", "uint32"))
         self.assertEqual([found.reason for found in self.of(accept(), it)], ["Never negative."])
         for other in (("unlike", (2, "Order.quantity", "int32", "uint32")), ("value", (2, "Order.quantity", "int32", "uint64")),
                       ("value", (2, "Order.quantity", "sint32", "uint32")), ("value", (2, "shop.Order.quantity", "int32", "uint32")),
-                      ("value", (2, "Order.quantity2", "int32", "uint32")), ("value", (2, "Order.quantity", None, "uint32")),
-                      ("value", (2, "Order.quantity", "int32", None)), ("value", (2, "quantity", "int32", "uint32"))):
+                      ("value", (2, "Order.quantity2", "int32", "uint32")), ("value", (2, "quantity", "int32", "uint32"))):
             self.assertEqual(self.of(accept(), cause(*other)), [], other)
 
     def test_oneofs(self):
@@ -53,22 +52,22 @@ class Matching(unittest.TestCase):
         self.assertEqual(len(self.of(accept(until=datetime.date.today().isoformat()), it)), 1)
 
     def test_baselines(self):
-        causes = [cause("value", (2, "Order.quantity", "int32", "uint32")), cause("value", (3, "A.a", None, "int32")),
+        causes = [cause("value", (2, "Order.quantity", "int32", "uint32")), cause("map", (3, "A.a", "map<a,b>", "int32")),
                   cause("oneof", (1, "P.net", "int32", "int32"), (2, "P.gross", "int32", "int32"))]
-        data = accepted.written(causes)
-        baseline = accepted.read(data, "base\n.json")
-        self.assertEqual([bool(self.of("", it, baseline)) for it in causes], [True, False, True])
-        self.assertEqual(accepted.written(causes[::-1]), data)
-        self.assertEqual(len(accepted.written([])) < 100, True)
+        data = settings.baseline_of(causes)
+        baseline = settings.read_baseline(data, "base\n.json")
+        self.assertEqual([bool(self.of("", it, baseline)) for it in causes], [True, True, True])
+        self.assertEqual(settings.baseline_of(causes[::-1]), data)
+        self.assertEqual(len(settings.baseline_of([])) < 100, True)
 
     def test_what_is_no_baseline(self):
-        head = {"format": accepted.FORMAT, "version": 1}
+        head = settings.BASELINE
         for data in (b"", b"{", b"null", b"[]", b"\xff", b"[" * 100_000, b"{}", json.dumps(head).encode(), b"0" * 2_000_000,
                      json.dumps({**head, "version": 2, "accepted": []}).encode(), json.dumps({**head, "accepted": [{}]}).encode(),
                      json.dumps({**head, "accepted": [{"field": 1, "case": "", "old": "", "new": ""}]}).encode(),
                      json.dumps({**head, "accepted": {"field": 1}}).encode(), json.dumps({**head, "accepted": [["field"]]}).encode()):
             with self.assertRaises(Stop) as stopped:
-                accepted.read(data, "::error::\n")
+                settings.read_baseline(data, "::error::\n")
             self.assertEqual((stopped.exception.status, str(stopped.exception).isprintable()), (4, True), data[:50])
 
 

@@ -95,6 +95,9 @@ class Runs(Gate):
         with open("protogate.ini", encoding="utf-8") as file:
             self.assertEqual(file.read(), "[gate]\nfolder = proto\n    vendor/api\nreleases = v1\n")
         self.assertIn("protogate.ini is written. 1 of 4 files can be gated.\n", self.said)
+        self.assertIn(".github/workflows/protogate.yml is written", self.said)
+        with open(".github/workflows/protogate.yml", encoding="utf-8") as file:
+            self.assertIn("sha256: ${{ vars.PROTOGATE_SHA256 }}", file.read())
         self.assertIn('E201: The first statement is not `syntax = "proto3";`. vendor/api/b.proto\nE205: Unknown option. proto/a.proto\n', self.said)
         self.assertEqual((self.gate("init"), self.said), (4, ""))
         self.commit("main")

@@ -96,13 +96,12 @@ class Paths(Repository):
             self.assertIn("has more than 100,000 files and folders", self.stops(3, self.snapshot, side))
 
     def test_many_files_with_one_content(self):
-        """They are one file, by as many names as the system gives it."""
-        blob = self.git("hash-object", "-w", "--stdin", input=b"a")
+        """A tree has a long file under as many names as one likes: it isn't laid out where all of them together are too long."""
+        blob = self.git("hash-object", "-w", "--stdin", input=b"a" * 100_000)
         commit = self.tree_of([f"{it:06d}.proto" for it in range(MOST_PATHS)], f"100644 blob {blob}")
         found = self.snapshot(commit)
-        found.lay(f"{self.room}/laid", {})
-        self.assertEqual(len(os.listdir(f"{self.room}/laid/proto")), MOST_PATHS)
-        self.assertLess(len({it.inode() for it in os.scandir(f"{self.room}/laid/proto")}), 10)
+        self.assertIn("has more than 2,000,000,000 bytes of source files", self.stops(3, found.lay, f"{self.room}/laid", {}))
+        self.assertEqual(os.listdir(f"{self.room}/laid/proto"), [])
 
     def test_long_paths(self):
         """They are on no command line."""

@@ -11,7 +11,7 @@ import unittest
 import zipapp
 from unittest import mock
 
-from answers import BREAKS, lines, refused
+from answers import BREAKS, cause, lines, refused
 from common import CI, Repository
 from protogate_ci import gate
 
@@ -191,11 +191,22 @@ class Failures(Gate):
     def test_what_is_printed(self):
         whole = lines(BREAKS)
         self.assertEqual(self.answers(whole, 1), 1)
-        for data, status in ((whole, 0), (whole, 2), (whole, 4), (whole, 101), (whole[:-1], 1), (whole[:40], 1), (b"", 1), (b"compatible Order\n", 0),
+        for data, status in ((whole, 0), (whole, 2), (whole, 101), (whole[:-1], 1), (whole[:40], 1), (b"", 1), (b"compatible Order\n", 0),
                              (b"\0" * 100, 0), (whole * 2, 1)):
             self.assertEqual((self.answers(data, status), self.said), (3, ""), (data[:50], status))
             self.assertIn("protogate-ci: ", self.advice)
             self.assertNotIn("Traceback", self.advice)
+
+    def test_an_older_program(self):
+        """One line says that it lacks what it is asked for, whatever it prints, and the status is one of its own."""
+        self.assertEqual((self.answers(b"error: unexpected argument '--keep-going' found\n", 4), self.said), (5, ""))
+        self.assertEqual(self.advice, f"protogate-ci: {STAND_IN} is too old to be asked for gate-all --keep-going: install a later protogate\n")
+        bare = {key: it for key, it in cause()["old"].items() if key != "element"}
+        self.assertEqual((self.answers(lines([{**cause(), "old": bare, "new": bare}, *BREAKS[1:]]), 1), self.said), (5, ""))
+        self.commit("v2")
+        self.write({"protogate.ini": "[gate]\nfolder = proto\nreleases = v1\n v2\n"})
+        self.commit("main")
+        self.assertEqual((self.gate("--base", "main"), self.said, self.advice.count("\n")), (5, "", 1))
 
     def test_refused(self):
         self.assertEqual(self.answers(lines([refused(side=None, code="E001", file=None, line=None, column=None, says="Out of memory.")]), 3), 3)

@@ -8,7 +8,7 @@ import unittest
 
 from common import Repository
 from test_gate import PROTO, Gate
-from protogate_ci import protoc
+from protogate_ci import sets
 
 CUSTOM = """syntax = "proto2";
 import "google/protobuf/descriptor.proto";
@@ -102,7 +102,7 @@ class Bytes(Repository):
         subprocess.run(["protoc", "-I.", "-I/usr/include", "--include_imports", "--include_source_info", "--descriptor_set_out=set.pb", "a.proto", *names],
                        check=True, stderr=subprocess.DEVNULL)
         with open("set.pb", "rb") as file:
-            return {protoc.word(it, protoc.NAME): it for it in protoc.all_of(file.read(), 1)}
+            return {sets.word(it, sets.NAME): it for it in sets.all_of(file.read(), 1)}
 
     def decoded(self, file):
         return subprocess.run(["protoc", "-I/usr/include", "--decode=google.protobuf.FileDescriptorProto", "google/protobuf/descriptor.proto"], input=file,
@@ -114,7 +114,7 @@ class Bytes(Repository):
         files["e"] = CUSTOM
         found = self.made(PROTO + 'import "b.proto";\nimport public "e.proto";\nimport public "c.proto";\nimport public "d.proto";\nmessage A { D d = 300; }\n',
                           **files)
-        whole, less = (self.decoded(it) for it in (found["a.proto"], protoc.without(found["a.proto"], {"e.proto", "other.proto"})))
+        whole, less = (self.decoded(it) for it in (found["a.proto"], sets.without(found["a.proto"], {"e.proto", "other.proto"})))
         self.assertEqual([it for it in less.split("\n") if "dependency" in it], [
             '  dependency: "b.proto"'.strip(), 'dependency: "c.proto"', 'dependency: "d.proto"', "public_dependency: 1", "public_dependency: 2"])
         self.assertEqual([it for it in less.split("\n") if "dependency" not in it],
@@ -122,7 +122,7 @@ class Bytes(Repository):
 
     def test_places(self):
         text = PROTO + "package x.y;\nmessage A {\n  int32 a = 1;\n  message B { repeated\n    string b = 2; }\n  map<string, B> m = 3;\n  oneof o { A c = 4; }\n}\n"
-        found = protoc.places_of(self.made(text)["a.proto"], "proto/a.proto")
+        found = sets.places_of(self.made(text)["a.proto"], "proto/a.proto")
         self.assertEqual({name: tuple(it) for name, it in found.items() if "Entry" not in name}, {
             "x.y.A.a": ("proto/a.proto", 4, 9), "x.y.A.B.b": ("proto/a.proto", 6, 12), "x.y.A.m": ("proto/a.proto", 7, 18),
             "x.y.A.c": ("proto/a.proto", 8, 15)})
@@ -132,11 +132,11 @@ class Bytes(Repository):
         whole = self.made(PROTO + "message A { int32 a = 1; }\n")["a.proto"]
         for at in range(1, len(whole)):
             try:
-                protoc.places_of(whole[:at], "a")
-                list(protoc.records(whole[:at]))
+                sets.places_of(whole[:at], "a")
+                list(sets.records(whole[:at]))
             except (IndexError, KeyError):
                 continue
-            self.assertEqual(b"".join(it for *_, it in protoc.records(whole[:at])), whole[:at])
+            self.assertEqual(b"".join(it for *_, it in sets.records(whole[:at])), whole[:at])
 
 
 if __name__ == "__main__":

@@ -13,7 +13,7 @@ from unittest import mock
 
 from common import CI
 from protogate_ci import running
-from protogate_ci.running import Stop, plain, room, run, run_up_to, side_by_side
+from protogate_ci.running import Stop, plain, room, run
 
 # What none of these calls takes, in seconds.
 LONG = 900
@@ -76,30 +76,24 @@ class Programs(Room):
     def test_what_a_program_says(self):
         self.assertEqual(run(["sh", "-c", "cat; echo why >&2; exit 5"], b"given"), (5, b"given", "why\n"))
         self.assertEqual(run(["cat"]), (0, b"", ""))
-        self.assertEqual(run_up_to(5, ["sh", "-c", "printf 12345; echo why >&2; exit 5"]), (5, b"12345", "why\n"))
+        self.assertEqual(run(["sh", "-c", "printf 12345; echo why >&2; exit 5"], most=5), (5, b"12345", "why\n"))
         with self.assertRaises(OSError):
             run(["/none"])
 
     def test_one_that_prints_too_much(self):
-        self.assertEqual(run_up_to(4, ["sh", "-c", "printf 12345"]), (None, b"", ""))
-        self.assertEqual(run_up_to(1_000_000, ["sh", "-c", f"echo $$ >'{self.pids}'; exec yes"]), (None, b"", ""))
+        self.assertEqual(run(["sh", "-c", "printf 12345"], most=4), (None, b"", ""))
+        self.assertEqual(run(["sh", "-c", f"echo $$ >'{self.pids}'; exec yes"], most=1_000_000), (None, b"", ""))
         self.nothing_is_left()
 
     def test_one_that_does_not_end(self):
         self.assertEqual(running.STATE.limit, 600)
-        for call in (run, lambda words, **how: run_up_to(9, words, **how)):
-            for ignores in ("", "trap '' TERM;"):
-                with mock.patch.object(running.STATE, "limit", 1), mock.patch.object(running, "PATIENCE", 1), self.assertRaises(Stop) as stopped:
-                    call(self.hanging(ignores), env={**os.environ, "MARK": self.pids})
-                self.assertEqual(stopped.exception.status, 3)
-                self.assertEqual(str(stopped.exception), "sh took more than 1 seconds, and was ended: nothing is said of what wasn't printed")
-                # (what hangs may have been ended before it could note what it started)
-                self.nothing_is_left(self.marked)
-
-    def test_side_by_side(self):
-        self.assertEqual(side_by_side(lambda it: it * 2, [1, 2]), [2, 4])
-        with self.assertRaises(ZeroDivisionError):
-            side_by_side(lambda it: 1 // it, [1, 0])
+        for ignores in ("", "trap '' TERM;", "exec >&-;"):
+            with mock.patch.object(running.STATE, "limit", 1), mock.patch.object(running, "PATIENCE", 1), self.assertRaises(Stop) as stopped:
+                run(self.hanging(ignores), env={**os.environ, "MARK": self.pids})
+            self.assertEqual(stopped.exception.status, 3)
+            self.assertEqual(str(stopped.exception), "sh took more than 1 seconds, and was ended: nothing is said of what wasn't printed")
+            # (what hangs may have been ended before it could note what it started)
+            self.nothing_is_left(self.marked)
 
     def test_rooms(self):
         with mock.patch.object(tempfile, "tempdir", self.temporary):
@@ -136,11 +130,8 @@ class Signals(Room):
         for number in running.SIGNALS:
             self.ends(f"run({self.hanging()!r})", number)
 
-    def test_a_program_whose_output_is_counted(self):
-        self.ends(f"run_up_to(9, {self.hanging()!r})")
-
-    def test_a_program_of_a_thread(self):
-        self.ends(f"side_by_side(run, [{self.hanging()!r}, ['true']])")
+    def test_one_that_closed_its_output(self):
+        self.ends(f"run({self.hanging('exec >&-;')!r})")
 
     def test_while_nothing_is_run(self):
         """It doesn't wait for what the gate does itself."""

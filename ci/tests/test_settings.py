@@ -119,9 +119,9 @@ class Names(unittest.TestCase):
         types, paths = {"draft", "Order"}, {"draft", "a.proto"}
         with self.assertRaisesRegex(Stop, "--skip draft is the name of a type and of a path: write type:draft or path:draft"):
             self.skips("draft").told(types, paths)
-        for said, kind in (("type:draft", "type"), ("path:draft/", "path"), ("Order", "type"), ("a.proto", "path")):
+        for said in ("type:draft", "path:draft/", "Order", "a.proto"):
             found, idle = self.skips(said).told(types, paths)
-            self.assertEqual(([it for _, it in found], idle), ([kind], []))
+            self.assertEqual(([it.said for it in found], idle), ([said], []))
         found, idle = self.skips("gone", "type:a.proto", "path:Order").told(types, paths)
         self.assertEqual((found, [it.said for it in idle]), ([], ["gone", "type:a.proto", "path:Order"]))
 
@@ -134,12 +134,6 @@ class Names(unittest.TestCase):
     def test_which_names_are_types(self):
         found = self.skips("draft", "type:A", "path:b/")
         self.assertEqual((found.types, found.paths), ({"draft", "A"}, {"draft", "b"}))
-
-    def test_a_type_that_is_named_and_skipped(self):
-        for said in ("A", "type:A"):
-            with self.assertRaisesRegex(Stop, f"A is named, and left out too: --skip {said}"):
-                self.skips(said).refuse(["B", "A"])
-        self.skips("path:A", "B").refuse(["A"])
 
     def test_releases(self):
         tags = ["v1", "v1.1", "w2", "v2", "v10"]
@@ -154,13 +148,19 @@ class Names(unittest.TestCase):
 class Base(Repository):
     """The settings are those of the base revision."""
 
+    def base(self, revision):
+        return settings.Base(settings.file_of(Git.here(), revision), settings.FILE, revision)
+
+    def of_file(self, path):
+        return settings.Base(settings.read_named("--settings", path), os.path.normpath(path))
+
     def difference(self, base):
         return settings.difference(base, Git.here())
 
     def test_a_change_that_brings_settings(self):
         self.commit()
         self.write({"protogate.ini": SKIP % ("Order", "2026-12-01")})
-        base = settings.of_revision(Git.here(), "v1")
+        base = self.base("v1")
         self.assertEqual((base.data, base.settings().skips), (None, []))
         self.assertTrue(self.difference(base).startswith("protogate.ini of the work tree isn't read: v1 has none (--base REVISION, "))
 
@@ -168,7 +168,7 @@ class Base(Repository):
         self.write({"protogate.ini": "[gate]\nview = names\n"})
         self.commit()
         self.write({"protogate.ini": "[gate]\nview = numbers\n"})
-        base = settings.of_revision(Git.here(), "v1")
+        base = self.base("v1")
         self.assertEqual(base.settings().said, {"view": "names"})
         self.assertIn("it differs from that of v1, which counts", self.difference(base))
         os.remove("protogate.ini")
@@ -187,7 +187,7 @@ class Base(Repository):
         """The ends of lines, and a mark of UTF-8, are none of a change."""
         self.write({"protogate.ini": "[gate]\nview = names\n"})
         self.commit()
-        base = settings.of_revision(Git.here(), "v1")
+        base = self.base("v1")
         for text in ("[gate]\nview = names\n", "[gate]\r\nview = names\r\n", "\ufeff[gate]\nview = names\n"):
             self.write({"protogate.ini": text})
             self.assertIsNone(self.difference(base))
@@ -197,22 +197,22 @@ class Base(Repository):
         self.commit()
         self.git("sparse-checkout", "set", "--no-cone", "/a")
         self.assertFalse(os.path.exists("protogate.ini"))
-        self.assertIsNone(self.difference(settings.of_revision(Git.here(), "v1")))
+        self.assertIsNone(self.difference(self.base("v1")))
 
     def test_what_the_caller_vouches_for(self):
         self.write({"ours.ini": "[gate]\nview = names\n"})
         self.commit()
         os.mkfifo("pipe")
         os.mkdir("folder")
-        base = settings.of_file("./ours.ini")
+        base = self.of_file("./ours.ini")
         self.assertEqual((base.settings().said, base.name, self.difference(base)), ({"view": "names"}, "ours.ini", None))
         self.write({"protogate.ini": "[gate]\n"})
         self.assertEqual(self.difference(base), "protogate.ini of the work tree isn't read: ours.ini counts")
         for path in ("none.ini", "", "pipe", "folder"):
-            self.stops(4, settings.of_file, path)
+            self.stops(4, self.of_file, path)
         with open("zeros", "wb") as file:
             file.truncate(300_000_000)
-        self.assertIn("zeros:1: the file has over 1,000,000 bytes", self.stops(4, settings.of_file("zeros").settings))
+        self.assertIn("zeros:1: the file has over 1,000,000 bytes", self.stops(4, self.of_file("zeros").settings))
 
     def test_what_is_no_file_in_the_base_revision(self):
         """A link there isn't followed, wherever it leads."""
@@ -222,18 +222,18 @@ class Base(Repository):
         for entry in (f"120000 blob {blob}", f"040000 tree {inner}", f"160000 commit {commit}"):
             tree = self.git("mktree", input=f"{entry}\tprotogate.ini\n".encode())
             self.git("tag", "-f", "odd", self.git("commit-tree", "-m", "x", tree), stderr=subprocess.DEVNULL)
-            self.assertIn("protogate.ini is no file at odd", self.stops(4, settings.of_revision, Git.here(), "odd"))
+            self.assertIn("protogate.ini is no file at odd", self.stops(4, self.base, "odd"))
 
     def test_a_file_of_300_megabytes(self):
         with open("protogate.ini", "wb") as file:
             file.truncate(300_000_000)
         self.commit()
-        self.assertIn("protogate.ini:1: the file has over 1,000,000 bytes at v1", self.stops(4, settings.of_revision, Git.here(), "v1"))
+        self.assertIn("protogate.ini has over 1,000,000 bytes, or isn't here, at v1", self.stops(4, self.base, "v1"))
 
     def test_faults_say_where_they_are_from(self):
         self.write({"protogate.ini": "[gate]\nview = all\n"})
         self.commit()
-        said = self.stops(4, settings.of_revision(Git.here(), "v1").settings)
+        said = self.stops(4, self.base("v1").settings)
         self.assertEqual(said, "protogate.ini:2: view is numbers or names, not all (as it was at v1; --base REVISION, --settings FILE and "
                                "--no-settings name others)")
 

@@ -8,21 +8,20 @@ from unittest import mock
 
 from common import Git, Repository, Snapshot, Ways
 from protogate_ci.snapshot import unseen
+from protogate_ci.asking import Side
 from protogate_ci import sources
 from protogate_ci.running import plain
 
 
 class Sides(Ways):
     def test_each_side(self):
-        """They are read by one piece of code, so that equal files are equal blobs."""
+        """They are read by one piece of code."""
         self.write({"proto/a.proto": "a", "proto/in/b.proto": "b", "proto/README": "mine", "other/c.proto": "c"})
         for side in self.sides():
             self.assertEqual(self.gated(side), {"proto/a.proto": "a", "proto/in/b.proto": "b"}, side)
             self.assertEqual((self.refused(side), self.snapshot(side, ".").closed), ({}, {}), side)
             self.assertEqual(sorted(self.gated(side, ".")), ["other/c.proto", "proto/a.proto", "proto/in/b.proto"], side)
             self.assertEqual(sorted(self.gated(side, "other", "proto/in", "other")), ["other/c.proto", "proto/in/b.proto"], side)
-        blobs = [[self.snapshot(side).entries[f"proto/{it}"].blob for it in ("a.proto", "in/b.proto")] for side in ("v1", "staged", "now")]
-        self.assertEqual(blobs, [blobs[0]] * 3)
 
     def test_what_each_side_has(self):
         """One that is staged isn't the work tree, and neither is the revision."""
@@ -180,9 +179,11 @@ class WorkTrees(Repository):
 
         with mock.patch("os.access", lambda path, mode: not path.endswith("a.proto") and access(path, mode)), mock.patch("os.scandir", closed):
             for side in ("now", f"folder {self.top}"):
-                self.assertEqual(self.refused(side), {"proto/a.proto": "file", "proto/in": "folder"}, side)
-                self.assertIn("proto/in can't be read (Permission denied)", self.snapshot(side).closed["proto/in"])
-                self.assertEqual(list(self.snapshot(side).gated()), ["proto/keep.proto"])
+                found = self.snapshot(side)
+                self.assertEqual(self.laid(found), {"proto/keep.proto": b"k"})
+                self.assertEqual({path: kind for path, (kind, _) in found.refused().items()}, {"proto/a.proto": "file", "proto/in": "folder"}, side)
+                self.assertIn("proto/in can't be read (Permission denied)", found.closed["proto/in"])
+                self.assertEqual(list(found.gated()), ["proto/keep.proto"])
 
     def test_a_sparse_one(self):
         self.write({"proto/a.proto": "a", "proto/b/b.proto": "b", "proto/README": "mine"})
@@ -357,11 +358,11 @@ class Links(Ways):
         self.link("/gone", "proto/x")
         self.link("../../gone", "other/y/a.proto")
         self.write({"third/y/a.proto": "third"})
-        for side in self.sides():
-            wanted = {"proto/x": "link", "other/y/a.proto": "link"}
-            for skipped in ((), ("proto/x", "other")):
-                self.assertEqual(self.refused(side, includes=("other", "third"), skipped=skipped), wanted, side)
-            self.assertEqual(self.refused(side, includes=("other",)), {"proto/x": "link"}, side)
+        for name in self.sides():
+            for includes, wanted in ((("other", "third"), {"proto/x": "link", "other/y/a.proto": "link"}), (("other",), {"proto/x": "link"}), ((), {})):
+                side = Side("new", self.room, snapshot=self.snapshot(name, includes=includes))
+                side.lay({"proto/x", "other"}, None, {})
+                self.assertEqual({it.place.path: it.code for it in side.faults}, wanted, name)
 
 
 class Hidden(Ways):

@@ -72,12 +72,12 @@ class Sentences(unittest.TestCase):
                   "value int 1 is read as the entry key int 4294967295 value int 1 by a new program.", "add `map<uint32,int32> a_new = N;`")
         self.says(cause("name", "State", "State", "1 a int 1\n", "1 a int 1\n"), "The enums give a number other names.", "old name back")
 
-    def test_without_types_and_readings(self):
-        """A program that says less of a cause leaves a general sentence."""
-        self.says(cause("unlike", None, None), words.WHY["unlike"][0].upper() + words.WHY["unlike"][1:] + ".", "Give it its old type back, or keep it, add "
-                  "one of the new type")
+    def test_without_readings(self):
+        """Where no value shows it, a general sentence says what goes wrong."""
+        self.says(cause("unlike", "int32", "string"), "`int32` to `string`: " + words.WHY["unlike"] + ".", "Give it its type `int32` back, or keep it, add "
+                  "`optional string a_new = N;`")
         for why in words.WHY:
-            self.says(cause(why, None, None), words.why(cause(why, None, None)))
+            self.says(cause(why, "int32", "string"), words.why(cause(why, "int32", "string")))
 
     def test_hostile_values(self):
         """A value of a message is shown so that nothing in it is more than letters."""
