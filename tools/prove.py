@@ -40,19 +40,18 @@ import testers  # noqa: E402
 import times  # noqa: E402
 from costs import KINDS, Costs, others, print_costs  # noqa: E402
 from crates import crates_of  # noqa: E402
-from machine import is_confined, lanes, missing, processors  # noqa: E402
-from parts import all_parts  # noqa: E402
+from machine import CHECK, DISK_OF_GATE, PROGRAMS_OF_GATE, is_confined, lanes, missing, processors  # noqa: E402
+from parts import Part, all_parts, tried  # noqa: E402
+from side_by_side import SideBySide  # noqa: E402
 from try_edits import plan, try_all  # noqa: E402
 
 TOP = os.path.dirname(os.path.dirname(os.path.realpath(__file__)))
 # The program that the gate builds.
 BUILT = f"{TOP}/crates/{stamp.PROGRAM}/out/{stamp.PROGRAM}"
-# The programs that the gate needs, and what for.
-PROGRAMS = {"rt": "the kit that proves and builds", "git": "it makes the repository that the gate runs on", "cc": "it links programs"}
 # How the word begins that hands over which parts of tools/test.py passed, and of which files.
 TESTED = "--tested="
-# What the gate takes of the disk, in bytes: of all crates, and of some.
-DISK, DISK_OF_SOME = 6_000_000_000, 2_000_000_000
+# What the gate of some crates takes of the disk, in bytes.
+DISK_OF_SOME = 2_000_000_000
 # What a line of rt says of a crate whose proof is done.
 DONE = re.compile(r"rt: (\w+) (?:proved|NOT PROVED|(is kept))\b")
 HOW = {"stdin": subprocess.DEVNULL, "stdout": subprocess.PIPE, "stderr": subprocess.STDOUT, "text": True, "errors": "replace"}
@@ -255,38 +254,30 @@ def try_lent(room):
     return child_programs.run([sys.executable, f"{os.getcwd()}/tools/gate/try_lent.py", room], stdin=subprocess.DEVNULL)[0] == 0
 
 
+class Tried(Part):
+    """A tester of what `rt ci` built."""
+
+    def __init__(self, tester):
+        super().__init__(testers.name_of(tester), tester.seconds)
+        self.tester, self.is_alone = tester, tester.how != testers.BESIDE
+        self.memory = CHECK * (testers.CHECKS in tester.needs)
+
+    def run(self):
+        return tried(self.name, testers.words_of(self.tester, BUILT), TOP)
+
+
 def try_program(left, progress):
     """Runs these testers of what `rt ci` built side by side, those that check crates no more at once than there is room for, and then each of those that
     come alone. Prints what each said and took. Returns which passed, and what was passed over."""
     passed, over = [], []
 
-    def ended(tester, run, begun):
-        name = testers.name_of(tester)
-        with child_programs.limited(run, testers.MOST_SECONDS):
-            said = run.stdout.read()
-            status, seconds = child_programs.wait(run)
-        passed.append(status == 0)
-        progress.end(name)
-        said += child_programs.end_in_words(name, status, time.monotonic() - begun)
-        print(f"{said}{tester.path}: {seconds:.0f} processor seconds", flush=True)
-        over.extend(it for it in said.splitlines() if it.startswith("passed over"))
+    def ended(part, outcome, _):
+        passed.append(outcome.is_well)
+        progress.end(part.name)
+        print(f"{outcome.said}{part.tester.path}: {outcome.seconds:.0f} processor seconds", flush=True)
+        over.extend(it for it in outcome.said.splitlines() if it.startswith("passed over"))
 
-    def started(some):
-        for it in some:
-            progress.begin(testers.name_of(it))
-        return [(it, child_programs.start(testers.words_of(it, BUILT), **HOW), time.monotonic()) for it in some]
-
-    def wait_for(runs):
-        for tester, tried, begun in runs:
-            ended(tester, tried, begun)
-
-    beside, checking, alone = testers.in_order(left)
-    runs, at_once = started(beside), lanes()
-    for first in range(0, len(checking), at_once):
-        wait_for(started(checking[first : first + at_once]))
-    wait_for(runs)
-    for tester in alone:
-        wait_for(started([tester]))
+    SideBySide([Tried(it) for it in left], lambda it: progress.begin(it.name), ended).run()
     return passed, over
 
 
@@ -383,8 +374,8 @@ def main():
         print("--costs goes with --anew alone: what is kept from earlier runs, or was tested before, isn't measured", file=sys.stderr)
         return 2
     flags = ["--anew"] * ("--anew" in sys.argv)
-    places = {tempfile.gettempdir(): DISK_OF_SOME if names else DISK}
-    lacking = missing(PROGRAMS, places if names else {**places, stamp.out_of("."): 0})
+    places = {tempfile.gettempdir(): DISK_OF_SOME if names else DISK_OF_GATE}
+    lacking = missing(PROGRAMS_OF_GATE, places if names else {**places, stamp.out_of("."): 0})
     if lacking:
         print("\n".join([*lacking, f"{len(tested)} passed, 1 failed"]), flush=True)
         return 2

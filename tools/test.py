@@ -126,11 +126,12 @@ def prove(passed, of):
 
 
 def lacking(options, parts):
-    """Returns a line for each thing that is missing for what has to be compiled, and for the rest."""
+    """Returns a line for each thing that is missing for what has to be compiled, and for the rest, with what the gate needs after it."""
     made = [it for it in parts if not it.is_made()]
     keeps = not options.no_program and any(isinstance(it, Program) for it in made)
-    places = {tempfile.gettempdir(): DISK, **({stamp.out_of(TOP): DISK_OF_PROGRAM} if keeps else {})}
-    return machine.missing(PROGRAMS, places, max((it.memory for it in made), default=0))
+    programs, disk = (machine.PROGRAMS_OF_GATE, machine.DISK_OF_GATE) if options.prove else (PROGRAMS, DISK)
+    places = {tempfile.gettempdir(): disk, **({stamp.out_of(TOP): DISK_OF_PROGRAM} if keeps else {})}
+    return machine.missing(programs, places, max((it.memory for it in made), default=0))
 
 
 def main():

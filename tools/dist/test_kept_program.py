@@ -25,6 +25,20 @@ from unproved import compiled  # noqa: E402
 HEAD = 'syntax = "proto3";\n'
 OLD, NEW = HEAD + "message M { bytes a = 1; }\n", HEAD + "message M { string a = 1; }\n"
 
+# Has a file system be full where a program is kept, and another one start nothing from there.
+FULL = """import errno, os, shutil
+copy = shutil.copyfileobj
+def full(one, other, *more):
+    if "/unproved-" in str(other.name):
+        raise OSError(errno.ENOSPC, os.strerror(errno.ENOSPC))
+    copy(one, other, *more)
+shutil.copyfileobj = full
+"""
+STARTS_NOTHING = """import os
+access = os.access
+os.access = lambda path, *how, **more: "/unproved-" not in str(path) and access(path, *how, **more)
+"""
+
 
 class Kept(Checkout):
     """What `rt try` compiled is kept, and later calls start it."""
@@ -66,8 +80,15 @@ class Kept(Checkout):
         self.assertEqual(len(os.listdir(self.out)), 2 * is_kept, os.listdir(self.out))
         self.assertEqual(os.listdir(f"{self.room}/temporary"), [])
         if is_kept:
-            beside = [f"protogate{it}" for it in ("", ".begun", ".kit", ".sum")]
-            self.assertEqual(sorted(os.listdir(f"{self.out}/unproved")), beside)
+            beside = [f"protogate{it}" for it in ("", ".begun", ".sum")]
+            self.assertEqual(sorted(os.listdir(os.path.dirname(self.kept()))), beside)
+        # The kit's own gate refuses a link below crates/.
+        crates = f"{self.top}/crates"
+        self.assertEqual([it for at, below, names in os.walk(crates) for it in (*below, *names) if os.path.islink(f"{at}/{it}")], [])
+
+    def kept(self):
+        """Returns the program that is kept."""
+        return f"{self.out}/{read(f'{self.out}/unproved.name').decode().strip()}/protogate"
 
     def keeps_nothing(self, lines=2, **more):
         self.assertEqual(self.call(*self.words, **more), self.wanted, self.lines)
@@ -79,7 +100,7 @@ class Kept(Checkout):
         self.compiles()
         self.starts()
         self.starts(PATH="/usr/bin:/bin")
-        self.assertEqual(read(f"{self.out}/unproved/protogate"), read(self.program))
+        self.assertEqual(read(self.kept()), read(self.program))
 
     def test_each_status(self):
         """Later calls end as the program does, also with a status that `rt try` has for itself, and with words that it doesn't take."""
@@ -92,10 +113,10 @@ class Kept(Checkout):
     def test_a_changed_source(self):
         self.compiles()
         for path in ("crates/pg_low/src/lib.rt", "crates/protogate/src/main.rt", "crates/pg_low/specs/Lib.antt"):
-            kept = os.readlink(f"{self.out}/unproved")
+            kept = self.kept()
             write(f"{self.top}/{path}", "other\n")
             self.compiles()
-            self.assertNotEqual(os.readlink(f"{self.out}/unproved"), kept)
+            self.assertNotEqual(self.kept(), kept)
             self.starts()
 
     def test_another_kit(self):
@@ -137,6 +158,7 @@ class Kept(Checkout):
     def test_what_a_killed_call_left(self):
         write(f"{self.out}/unproved-killed/protogate", read(self.program), 0o755)
         os.symlink("unproved-gone", f"{self.out}/unproved")
+        write(f"{self.out}/unproved.name", "unproved-gone\n")
         self.compiles()
         self.starts()
 
@@ -177,6 +199,7 @@ class Kept(Checkout):
         os.utime(f"{self.kit}/rt", (time.time() + 9,) * 2)
         self.assertFalse(self.is_kept())
 
+    @unittest.skipUnless(shutil.which("git"), "without git")
     def test_that_only_the_proved_program_is_installed_or_gates(self):
         self.compiles()
         for it in ("tools/install.sh", *(f"examples/ci/{it}" for it in os.listdir(f"{TOP}/examples/ci") if it.endswith((".sh", ".py")))):
@@ -201,6 +224,13 @@ class Kept(Checkout):
             self.says("compiles", status, status and "run=no-answer proved=no")
             self.assertEqual(self.call(*self.words), (3, b"") if status else self.wanted)
             self.is_clean()
+
+    def test_where_a_program_cannot_be_kept(self):
+        """What the system says of that is the reason."""
+        for words, wanted in ((FULL, "No space left on device"), (STARTS_NOTHING, "no program can be started there")):
+            write(f"{self.room}/custom/sitecustomize.py", words)
+            self.keeps_nothing(PYTHONPATH=f"{self.room}/custom")
+            self.assertIn(wanted, self.lines[-1])
 
     def test_where_nothing_can_be_written(self):
         write(self.out, "a file\n")

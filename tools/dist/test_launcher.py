@@ -20,6 +20,13 @@ import stamp  # noqa: E402
 from trial_checkout import Checkout, run_tests, write  # noqa: E402
 
 
+# A kit that has its name in a file beside its script.
+NAMED_KIT = """#!/bin/sh
+[ $1 != version ] || exec cat "${0%/*}/name"
+exit 2
+"""
+
+
 class Program(Checkout):
     """A checkout with programs of its sources, whose times are those of a while ago."""
 
@@ -30,10 +37,13 @@ class Program(Checkout):
     def build(self, folder, words):
         """Puts a program into a folder, and what is beside it."""
         write(f"{folder}/protogate", words, 0o755)
-        os.symlink(f"{self.kit}/rt", f"{folder}/protogate.kit")
+        self.note(folder)
+
+    def note(self, folder):
+        """Notes beside a program that it is of what is there now."""
         with open(f"{self.kit}/rt", "rb") as file:
             number, checksum = os.fstat(file.fileno()).st_ino, hashlib.sha256(file.read()).hexdigest()
-        write(f"{folder}/protogate.begun", f"stand-in\n{number} {checksum}\n")
+        write(f"{folder}/protogate.begun", f"stand-in\n{number} {checksum}\n{self.kit}/rt\n{' '.join(stamp.crates_of_program(self.top))}\n")
         write(f"{folder}/protogate.sum", f"{stamp.sum_of(self.top)}  -\n")
 
     def build_proved(self, words="#!/bin/sh\necho built; exit 7\n"):
@@ -42,7 +52,7 @@ class Program(Checkout):
 
     def build_unproved(self, words="#!/bin/sh\necho built; exit 7\n"):
         self.build(f"{self.built}/unproved-1", words)
-        os.symlink("unproved-1", f"{self.built}/unproved")
+        write(f"{self.built}/unproved.name", "unproved-1\n")
         self.age()
 
     def age(self, *folders):
@@ -56,9 +66,17 @@ class Program(Checkout):
 
     def renew(self, seconds=-50):
         """Makes the programs younger than what they were built of: as if that had been read so many seconds from now."""
-        for it in (self.built, f"{self.built}/unproved"):
-            if os.path.exists(f"{it}/protogate.begun"):
-                self.touch(f"{it}/protogate.begun", seconds)
+        for it in self.stamps():
+            self.touch(it, seconds)
+
+    def stamps(self):
+        return [it for it in (f"{self.built}/protogate.begun", f"{self.built}/unproved-1/protogate.begun") if os.path.exists(it)]
+
+    def read_now(self):
+        """Makes the programs younger than all that is there, to the system too, and no younger than now."""
+        time.sleep(0.05)
+        for it in self.stamps():
+            os.utime(it)
 
     def touch(self, path, seconds):
         """Gives a file the time of so many seconds from now. Two files that get the time of a moment may get the same: a system's clock has steps."""
@@ -113,7 +131,7 @@ class Built(Program):
                 self.touch(f"{self.top}/{it}", 20)
                 self.is_stale()
                 self.age(f"{self.top}/crates")
-                self.renew(10)
+                self.read_now()
                 self.is_built()
 
     def change(self, change):
@@ -241,21 +259,46 @@ class Built(Program):
     def test_no_stamp(self):
         self.changes("rm $out/protogate.begun")
 
-    def test_no_kit_beside_it(self):
-        self.changes("rm $out/protogate.kit")
+    def test_a_clock_that_was_set_back(self):
+        """Then each later change is older than the program, so the contents decide, of the kit too."""
+        for path in ("crates/pg_low/src/lib.rt", "crates.txt"):
+            with self.subTest(path):
+                self.renew(3600)
+                self.is_built()
+                write(f"{self.top}/{path}", "protogate:\n")
+                self.is_stale()
+                self.note(self.out)
+        self.renew(3600)
+        self.is_built()
+        self.put_kit("# other\n")
+        self.is_stale()
+
+    def test_a_crate_of_another_name(self):
+        """What the program is made of may be called anything."""
+        self.change("mkdir -p low/src low/specs; echo old >low/src/lib.rt; printf 'low:\npg_low: hex\nprotogate: pg_low low\n' >../crates.txt")
+        self.note(self.out)
+        self.age()
+        self.is_built()
+        self.changes("echo new >low/src/lib.rt")
+
+    def test_another_kit_with_the_same_script(self):
+        """Its name may be all that differs. What else lies in that folder is no matter where the kit says the same."""
+        write(f"{self.kit}/rt", NAMED_KIT, 0o755)
+        write(f"{self.kit}/name", "stand-in\n")
+        self.note(self.out)
+        self.age()
+        write(f"{self.kit}/more", "\n")
+        self.is_built()
+        write(f"{self.kit}/name", "another\n")
+        os.utime(f"{self.kit}/name", (1, 1))
+        self.is_stale()
+
+    def test_a_stamp_of_an_earlier_script(self):
+        self.changes("sed -i 4d $out/protogate.begun; touch -d '50 seconds ago' $out/protogate.begun")
 
     def test_another_kit(self):
         shutil.copytree(self.kit, f"{self.room}/other")
         self.is_stale(PATH=f"{self.room}/other:{self.env['PATH']}")
-
-    def test_a_kit_that_was_replaced(self):
-        """A kit that a hard link keeps is no longer that on the path."""
-        os.remove(f"{self.out}/protogate.kit")
-        os.link(f"{self.kit}/rt", f"{self.out}/protogate.kit")
-        self.is_built()
-        shutil.copy2(f"{self.kit}/rt", f"{self.kit}/new")
-        os.replace(f"{self.kit}/new", f"{self.kit}/rt")
-        self.is_stale()
 
     def put_kit(self, more):
         """Has another file, which is old, come to where the kit is."""
@@ -264,16 +307,13 @@ class Built(Program):
         os.utime(f"{self.kit}/new", (1, 1))
         os.replace(f"{self.kit}/new", f"{self.kit}/rt")
 
-    def test_another_kit_behind_the_same_link(self):
+    def test_another_kit_in_its_place(self):
         self.put_kit("")
         self.is_built()
         self.put_kit("# other\n")
         self.is_stale()
 
     def test_another_kit_in_the_same_file(self):
-        os.remove(f"{self.out}/protogate.kit")
-        os.link(f"{self.kit}/rt", f"{self.out}/protogate.kit")
-        self.is_built()
         with open(f"{self.kit}/rt", "a", encoding="utf-8") as file:
             file.write("# other\n")
         os.utime(f"{self.kit}/rt", (1, 1))
@@ -286,20 +326,11 @@ class Built(Program):
         with open(f"{other}/rt", "a", encoding="utf-8") as file:
             file.write("# other\n")
         self.age(other)
-        self.renew(10)
+        self.read_now()
         self.is_built()
         os.rename(self.kit, f"{self.room}/gone")
         os.rename(other, self.kit)
         self.is_stale()
-
-    def test_a_stamp_that_says_nothing_of_the_kits_script(self):
-        """A link alone tells nothing."""
-        write(f"{self.out}/protogate.begun", "stand-in\n")
-        self.renew()
-        self.is_stale()
-        os.remove(f"{self.out}/protogate.kit")
-        os.link(f"{self.kit}/rt", f"{self.out}/protogate.kit")
-        self.is_built()
 
     def test_a_kit_that_was_changed(self):
         self.touch(f"{self.kit}/rt", 0)
@@ -316,7 +347,7 @@ class Built(Program):
             os.symlink(shutil.which(it), f"{self.room}/bin/{it}")
         self.is_stale(PATH=f"{self.room}/bin")
         # Where nothing was changed since, no file is read.
-        self.renew(10)
+        self.read_now()
         self.is_built(PATH=f"{self.room}/bin")
         self.touch(f"{self.top}/crates.txt", 20)
         self.is_stale(PATH=f"{self.room}/bin")
@@ -337,7 +368,7 @@ class Unproved(Built):
     def build_one(self):
         write(f"{self.kit}/rt", "#!/bin/sh\n[ $1 != version ] || exec echo stand-in\nexit 2\n", 0o755)
         self.build_unproved()
-        self.out = f"{self.built}/unproved"
+        self.out = f"{self.built}/unproved-1"
 
     def is_built(self, **more):
         super().is_built(**more)
@@ -353,7 +384,7 @@ class Unproved(Built):
         self.assertEqual(self.call("--help", PROTOGATE_PROVED_ONLY="1"), (127, b""))
 
     def test_a_link_to_nothing(self):
-        self.changes("rm -r $out-1")
+        self.changes("rm -r $out")
 
     def test_no_standard_error(self):
         done = subprocess.run(["sh", "-c", f"exec '{self.top}/protogate' --help 2>&-"], env=self.env, stdout=subprocess.PIPE, check=False)

@@ -451,9 +451,8 @@ class Packages(test_ci.Repository):
         for part in ("src", "specs", "out"):
             os.makedirs(f"{self.top}/crates/protogate/{part}")
         shutil.copy(test_ci.PROGRAM, f"{self.top}/crates/protogate/out/protogate")
-        if shutil.which("rt"):
-            os.symlink(os.path.realpath(shutil.which("rt")), f"{self.top}/crates/protogate/out/protogate.kit")
-        self.write({"crates/protogate/out/protogate.begun": "\n".join(stamp.lines_of_kit()) + "\n" if shutil.which("rt") else ""})
+        lines = stamp.lines_of_kit() if shutil.which("rt") else ["", "", ""]
+        self.write({"crates/protogate/out/protogate.begun": "\n".join([*lines, stamp.PROGRAM, ""])})
         os.chmod(f"{self.top}/protogate", 0o755)
         made = []
         names = ["protogate-1.2.3-linux-x86_64.tar.gz", "protogate_1.2.3_amd64.deb"]

@@ -37,6 +37,7 @@ BEFORE = {
     "pg_least": (505, 2339),
     "pg_causes": (0, 0),
     "pg_gate": (2089, 2472),
+    "pg_lines": (0, 0),
     "protogate": (39, 0),
 }
 IMPORT = re.compile(r"(pub(\(crate\))? )?use\b|ghost use\b|(pub(\(crate\))? )?mod \w+;")

@@ -18,6 +18,7 @@ import costs_table  # noqa: E402
 import pictures  # noqa: E402
 import run_tests  # noqa: E402
 import times  # noqa: E402
+from parts import Part  # noqa: E402
 from test_gate import text_of, write  # noqa: E402
 
 CRATES = "pg_low:\npg_other: # of the kit alone\npg_high: pg_low pg_other\nprotogate: pg_high\nrows_low: pg_low kit_rows\nkit_rows:\npromises_low: pg_low\n"
@@ -32,7 +33,8 @@ COSTS = {
     "testers": (0, 0, 0, 1000),
     "others": (0, 0, 0, 50),
 }
-BEFORE, AFTER = f"# Limits\n\n{costs_table.HEAD}\n", "\nAnd more.\n\n| another | table |\n"
+SAID = f"It {costs_table.SENTENCE.format(3, 1580)}."
+BEFORE, AFTER = f"# Limits\n\n{SAID}\n\n{costs_table.HEAD}\n", "\nAnd more.\n\n| another | table |\n"
 WANTED = """|---|---|---|---|---|---|
 | `pg_low`, `pg_other` | 1,100 | 304 | 0 | 0 | 1,404 |
 | `pg_high` | 70 | 0 | 0 | 0 | 70 |
@@ -51,11 +53,15 @@ class Table(unittest.TestCase):
         room = tempfile.TemporaryDirectory()
         self.addCleanup(room.cleanup)
         self.top = room.name
+        self.parts = [costs_table.Build(it, "") for it in ("program", "rows_low", "tests_low")] + [Part("one", 1500)]
+        for it, seconds in zip(self.parts, (50, 20, 13)):
+            it.seconds = seconds
         costs = {name: dict(zip(times.KINDS, seconds)) for name, seconds in COSTS.items()}
         for patched in (
             mock.patch.object(costs_table, "TOP", self.top),
             mock.patch.object(pictures, "TOP", self.top),
             mock.patch.object(times, "read", lambda: costs),
+            mock.patch.object(costs_table, "all_parts", lambda _: self.parts),
         ):
             patched.start()
             self.addCleanup(patched.stop)
@@ -85,6 +91,14 @@ class Table(unittest.TestCase):
     def test_a_page_that_lacks_a_row(self):
         self.write(BEFORE + WANTED.replace("| `pg_high` | 70 | 0 | 0 | 0 | 70 |\n", "") + AFTER)
         self.assertEqual(self.run_on("--compare"), 1)
+
+    def test_what_the_tests_compile_and_take(self):
+        for change in (lambda: self.parts.pop(2), lambda: setattr(self.parts[-1], "seconds", 100)):
+            change()
+            self.assertEqual([self.run_on(it) for it in ("--compare", "--write", "--compare")], [1, 0, 0])
+        self.write((BEFORE + WANTED + AFTER).replace(SAID, "It compiles some crates."))
+        with self.assertRaises(SystemExit):
+            self.run_on("--compare")
 
     def test_it_is_written(self):
         for rows in ("", "| a row |\n", WANTED.replace("7", "8")):

@@ -191,10 +191,11 @@ case $1 in
 esac
 END
     chmod 755 slow/crates/protogate/out/protogate || return 1
-    : >slow/crates/protogate/out/protogate.begun
+    stamp=slow/crates/protogate/out/protogate.begun
+    printf 'no kit\n0 none\nnone\nprotogate\n' >"$stamp"
     if kit=$(command -v rt); then
-        ln -s "$kit" slow/crates/protogate/out/protogate.kit
-        printf 'a kit\n%s %s\n' "$(stat -Lc %i -- "$kit")" "$(sha256sum <"$kit" | cut -d ' ' -f 1)" >slow/crates/protogate/out/protogate.begun
+        kit=$(readlink -f -- "$kit")
+        printf 'a kit\n%s %s\n%s\nprotogate\n' "$(stat -c %i -- "$kit")" "$(sha256sum <"$kit" | cut -d ' ' -f 1)" "$kit" >"$stamp"
     fi
     slow/tools/install.sh "slow/o'clock" >/dev/null
 }

@@ -9,6 +9,9 @@ import tempfile
 CHECK = 5_000_000_000
 # What a further job of a check is likely to take at most, in bytes.
 JOB = 1_500_000_000
+# The programs that the gate needs, and what for; and what it takes of the disk, in bytes.
+PROGRAMS_OF_GATE = {"rt": "the kit that proves and builds", "git": "it makes the repository that the gate runs on", "cc": "it links programs"}
+DISK_OF_GATE = 6_000_000_000
 # By the version of control groups: the files of a group that limit its processors and its memory, those that tell what it uses, and the word
 # of the part of this that can be taken back at once.
 LIMITS = {

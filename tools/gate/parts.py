@@ -20,10 +20,10 @@ from crates import crates_of
 
 # What a build by `rt try` was measured to take of a processor, in seconds, where it is of a crate with rows, of tests, or of the program.
 SECONDS = {
-    "program": 140, "rows_text": 116, "rows_bytes": 42, "rows_answer": 102, "rows_fds": 63, "rows_view": 67, "rows_gate": 210, "examples_library": 64,
-    "tests_gate": 220, "tests_bytes": 22,
+    "program": 112, "rows_text": 93, "rows_bytes": 34, "rows_answer": 82, "rows_fds": 50, "rows_view": 54, "rows_gate": 168, "examples_library": 51,
+    "tests_gate": 176, "tests_bytes": 18, "tests_notes": 55,
 }
-SECONDS_OF_OTHERS = 90
+SECONDS_OF_OTHERS = 72
 # What it is likely to take of memory at most, in bytes.
 MEMORY = {"tests_gate": 5_000_000_000}
 MEMORY_OF_OTHERS = 3_500_000_000
@@ -102,7 +102,7 @@ class Program(Build):
 
     def __init__(self, top, must_keep=True):
         super().__init__("program", f"{top}/crates/{stamp.PROGRAM}")
-        self.top, self.kept, self.must_keep = top, None, must_keep
+        self.top, self.kept, self.lasting, self.must_keep = top, None, None, must_keep
 
     def first_command(self):
         """Returns the words of the first page's first command, and what comes of it."""
@@ -115,13 +115,13 @@ class Program(Build):
 
     def hold(self):
         """Has the program that is kept in the folder of this run, too."""
-        kept = unproved.kept_program(self.top)
-        if kept:
+        self.lasting = unproved.kept_program(self.top)
+        if self.lasting:
             self.kept = f"{self.room}/{stamp.PROGRAM}"
             try:
-                os.link(os.path.realpath(kept), self.kept)
+                os.link(self.lasting, self.kept)
             except OSError:
-                shutil.copy2(kept, self.kept)
+                shutil.copy2(self.lasting, self.kept)
 
     def run(self):
         """Compiles the program and keeps it, where it isn't kept yet. A proved one that is there has no checks, and is no matter here."""
@@ -133,6 +133,9 @@ class Program(Build):
             call, counted = [sys.executable, "-B", f"{self.top}/tools/dist/first_answer.py", *words], "compiled"
         status, printed, said, seconds = run(call, self.top)
         if not self.kept:
+            self.hold()
+        if not self.kept and unproved.OTHER_KEEPS in text_of(said):
+            unproved.wait_for_others(self.top)
             self.hold()
         if text_of(printed) == wanted and status in (0, 1):
             return self.told(f"{counted}; it answers as the first page says", text_of(said), seconds)
@@ -216,6 +219,18 @@ def count_of_tests(folder):
     return found
 
 
+def tried(name, words, folder, env=None):
+    """Runs a tester by these words. Returns what became of it, with how many rows it says to have tried."""
+    how = {"stdin": subprocess.DEVNULL, "stdout": subprocess.PIPE, "stderr": subprocess.STDOUT, "text": True, "errors": "replace"}
+    begun, started = time.monotonic(), child_programs.start(words, cwd=folder, env=env, **how)
+    with started.stdout, child_programs.limited(started, testers.MOST_SECONDS):
+        said = started.stdout.read()
+        status, seconds = child_programs.wait(started)
+    rows = re.search(r"^\d+ rows\b", said, re.M)
+    said += child_programs.end_in_words(name, status, time.monotonic() - begun)
+    return Outcome(status == 0, said, rows[0] if rows else "", seconds)
+
+
 class Script(Part):
     """One of the testers."""
 
@@ -234,16 +249,10 @@ class Script(Part):
         return "for want of a program that is kept" if self.after and not self.program.kept else ""
 
     def run(self):
-        how = {"stdin": subprocess.DEVNULL, "stdout": subprocess.PIPE, "stderr": subprocess.STDOUT, "text": True, "errors": "replace"}
         words, env = testers.words_of(self.tester, self.program.kept, takes_less=True), {**os.environ, **ENVIRONMENT}
-        begun, started = time.monotonic(), child_programs.start(words, cwd=self.top, env=env, **how)
-        with started.stdout, child_programs.limited(started, testers.MOST_SECONDS):
-            said = started.stdout.read()
-            status, seconds = child_programs.wait(started)
-        if self.after:
-            # (so that what it says can be done again once this run is over)
-            said = said.replace(self.program.kept, f"{stamp.out_of(self.top)}/unproved/{stamp.PROGRAM}")
-        return Outcome(status == 0, said + child_programs.end_in_words(self.name, status, time.monotonic() - begun), "", seconds)
+        outcome = tried(self.name, words, self.top, env)
+        # (so that what it says can be done again once this run is over)
+        return outcome._replace(said=outcome.said.replace(self.program.kept, self.program.lasting)) if self.after else outcome
 
 
 def all_parts(top, must_keep=True):

@@ -1,10 +1,10 @@
 """What is beside the built program: when its sources were read and what they were, and the kit that built it. The script `protogate` compares
 these, for the proved program and for one that is compiled without proof (unproved.py).
 
-The file protogate.begun has as its time when the build or the gate read the sources, and as its first line what `rt version` printed; its second
-has the number of the kit's script in its file system, and a checksum of it. protogate.sum has a checksum of these sources, as that script makes
-it; there is none where a crate came or went meanwhile. protogate.kit is another name of the kit's script, or a link to it where it can't have
-one: then another script may take its place, and the second line tells.
+The file protogate.begun has as its time when the build or the gate read the sources, and as its first line what `rt version` printed then; its second
+has the number of the kit's script in its file system, and a checksum of it, its third the path of that script, and its fourth the crates that the
+program is made of. protogate.sum has a checksum of these sources, as the script `protogate` makes it; there is none where a crate came or went
+meanwhile.
 """
 
 import collections
@@ -21,8 +21,8 @@ PROGRAM = "protogate"
 PARTS = ("src", "specs")
 # So long the clock of a file system may stand still, in seconds: it goes on in steps, of some milliseconds or of two seconds.
 STEP = 10
-# When sources were read, in nanoseconds, and their checksum.
-Read = collections.namedtuple("Read", "at sum")
+# When sources were read, in nanoseconds, their checksum, and the lines that tell which kit was there and of which crates they are.
+Read = collections.namedtuple("Read", "at sum lines")
 
 
 def out_of(top):
@@ -50,7 +50,7 @@ def now_in(folder):
 
 
 def said_of_crates(top):
-    """Returns what crates.txt says of each crate that the program is made of: a line with the words of all that it says of it."""
+    """Returns what crates.txt says of each crate that the program is made of, by its name: a line with the words of all that it says of it."""
     said, found, left = {}, {}, [PROGRAM]
     with open(f"{top}/crates.txt", encoding="utf-8") as file:
         for words in (it.partition("#")[0].replace(":", " : ", 1).replace(",", " ").split() for it in file):
@@ -61,16 +61,20 @@ def said_of_crates(top):
         if name in said and name not in found:
             found[name] = said[name]
             left += said[name].split()
-    return [*found.values()]
+    return found
+
+
+def crates_of_program(top):
+    """Returns the names of the crates that the program is made of, whose lines crates.txt may not have yet."""
+    return sorted({*said_of_crates(top), PROGRAM})
 
 
 def sum_of(top):
     """Returns the checksum of the sources: of a line for each of those crates, and one for each file, as sha256sum prints it, in the order of
     their bytes."""
-    crates = [it for it in os.listdir(f"{top}/crates") if it.startswith("pg_") or it == PROGRAM]
-    folders = [f"{top}/crates/{it}/{part}" for it in crates for part in PARTS]
+    folders = [f"{top}/crates/{it}/{part}" for it in crates_of_program(top) for part in PARTS]
     files = [f"{at}/{name}" for folder in folders for at, _, names in os.walk(folder, followlinks=True) for name in names]
-    lines = [f"{it}\n".encode() for it in said_of_crates(top)]
+    lines = [f"{it}\n".encode() for it in said_of_crates(top).values()]
     for path in filter(os.path.isfile, files):
         with open(path, "rb") as file:
             lines.append(f"{hashlib.sha256(file.read()).hexdigest()}  {os.path.relpath(path, top)}\n".encode())
@@ -90,9 +94,9 @@ def sum_of_files(top):
 
 
 def read_now(top):
-    """Returns when the sources are read that are there now, and their checksum."""
+    """Returns when the sources are read that are there now, their checksum, and what else is noted of that time."""
     os.makedirs(out_of(top), exist_ok=True)
-    return Read(now_in(out_of(top)), sum_of(top))
+    return Read(now_in(out_of(top)), sum_of(top), [*lines_of_kit(), " ".join(crates_of_program(top))])
 
 
 @contextlib.contextmanager
@@ -120,30 +124,27 @@ def write_sum(top, begun, out=None):
 
 
 def write(top, begun, out=None):
-    """Notes that the program in a folder, by default where the proved one is, was built by this kit, of the sources as they were read."""
+    """Notes that the program in a folder, by default where the proved one is, was built of the sources as they were read, by the kit of that time."""
     out = out or out_of(top)
-    with replaced(f"{out}/{PROGRAM}.kit") as path:
-        try:
-            os.link(kit.script(), path)
-        except OSError:
-            os.symlink(kit.script(), path)
+    with contextlib.suppress(FileNotFoundError):
+        # (it was a link to the kit once, which `rt ci` refuses)
+        os.remove(f"{out}/{PROGRAM}.kit")
     write_sum(top, begun, out)
     with replaced(f"{out}/{PROGRAM}.begun") as path:
         with open(path, "w", encoding="utf-8") as file:
-            file.write("\n".join([*lines_of_kit(), ""]))
+            file.write("\n".join([*begun.lines, ""]))
         os.utime(path, ns=(begun.at, begun.at))
 
 
 def lines_of_kit():
-    """Returns what tells this kit from others: what it says, and of its script the number and a checksum."""
+    """Returns what tells this kit from others: what it says, of its script the number and a checksum, and where that is."""
     with open(kit.script(), "rb") as file:
-        return [kit.version(), f"{os.fstat(file.fileno()).st_ino} {hashlib.sha256(file.read()).hexdigest()}"]
+        return [kit.version(), f"{os.fstat(file.fileno()).st_ino} {hashlib.sha256(file.read()).hexdigest()}", kit.script()]
 
 
 def sources(top):
     """Returns the folders and files of the crates that the program is made of."""
-    crates = [it for it in os.listdir(f"{top}/crates") if it.startswith("pg_") or it == PROGRAM]
-    folders = [f"{top}/crates/{it}/{part}" for it in crates for part in PARTS]
+    folders = [f"{top}/crates/{it}/{part}" for it in crates_of_program(top) for part in PARTS]
     walks = [it for folder in folders for it in os.walk(folder, followlinks=True)]
     return [*folders, *(f"{at}/{name}" for at, below, names in walks for name in (*below, *names))]
 
@@ -165,9 +166,9 @@ def is_of(program, top):
     try:
         at = os.stat(f"{program}.begun").st_mtime_ns
         with open(f"{program}.begun", encoding="utf-8") as begun, open(f"{program}.sum", encoding="utf-8") as file:
-            (version, script), was = begun.read().splitlines(), file.read().split()[0]
-        now, its_script = lines_of_kit()
-        is_kits = version == now and script.split()[1] == its_script.split()[1] and os.path.samefile(f"{program}.kit", kit.script())
+            (version, script, path, _), was = begun.read().splitlines(), file.read().split()[0]
+        now, its_script, its_path = lines_of_kit()
+        is_kits = version == now and script.split()[1] == its_script.split()[1] and os.path.samefile(path, its_path)
         is_young = any(state(it).st_mtime_ns > at for it in (kit.script(), *sources(top)))
         return is_kits and not is_young and was == sum_of(top) and os.access(program, os.X_OK)
     except (OSError, ValueError, IndexError):

@@ -109,7 +109,8 @@ class Room(unittest.TestCase):
     def stamp(self):
         """Returns what has to stand beside a program of the kit."""
         with open(f"{self.room}/kit/rt", "rb") as file:
-            return f"{LINE}\n{os.fstat(file.fileno()).st_ino} {hashlib.sha256(file.read()).hexdigest()}\n"
+            said = f"{os.fstat(file.fileno()).st_ino} {hashlib.sha256(file.read()).hexdigest()}"
+        return f"{LINE}\n{said}\n{os.path.realpath(self.room)}/kit/rt\nlow protogate\n"
 
     def begun(self):
         return text_of(self.log).split() if os.path.exists(self.log) else []
@@ -207,7 +208,6 @@ class Builds(Room):
         status, said = self.run_to_end("build.py")
         self.assertEqual((status, self.begun()), (0, ["lib", "run"]), said)
         self.assertEqual((text_of(f"{self.out}/protogate"), text_of(f"{self.out}/protogate.begun")), ("built\n", self.stamp()))
-        self.assertTrue(os.path.samefile(f"{self.out}/protogate.kit", f"{self.room}/kit/rt"))
         read = os.stat(f"{self.out}/protogate.begun").st_mtime_ns
         self.assertTrue(before - 20_000_000 <= read <= os.stat(f"{self.top}/crates/low/out/rlib/library").st_mtime_ns)
         self.assertEqual(os.listdir(f"{self.top}/crates/low/out"), ["rlib"])
@@ -394,6 +394,7 @@ class WholeGates(Room):
         self.assertEqual(self.begun(), [])
 
     def test_the_program_is_handed_over(self):
+        self.env["RT_JOBS"] = "1"
         _, said = self.run_whole(**dict.fromkeys(("one", "two", "four", "seven"), "print(sys.argv)"))
         program = f"'{self.out}/protogate']"
         wanted = ["['tools/seven.py', '--compare']", "['tools/one.py']", f"['tools/two.py', {program}", f"['tools/four.py', {program}"]
@@ -407,9 +408,14 @@ class WholeGates(Room):
             os.remove(self.log)
 
     def test_what_only_tries_the_program_runs_beside_what_checks_crates(self):
-        noted = NOTED.format(patience=PATIENCE)
+        self.env["RT_JOBS"], noted = "2", NOTED.format(patience=PATIENCE)
         status, said = self.run_whole(one=noted, five=noted)
         self.assertEqual((status, [it for it in self.begun() if it != "ci"]), (0, ["begun"] * 2 + ["ended"] * 2), said)
+
+    def test_no_more_run_at_once_than_there_are_processors(self):
+        self.env["RT_JOBS"], noted = "1", NOTED.format(patience=1)
+        status, said = self.run_whole(one=noted, two=noted)
+        self.assertEqual((status, [it for it in self.begun() if it != "ci"]), (0, ["begun", "ended"] * 2), said)
 
     def test_what_is_changed_meanwhile(self):
         write(f"{self.room}/kit/rt", RT.replace("ci)\n", f"ci)\n        echo >>'{self.top}/crates/low/src/lib.rt'\n", 1))
@@ -438,9 +444,9 @@ class PutBack(Room):
         self.proved = f"{self.room}/proved"
         shutil.copytree(self.top, self.proved)
         write(f"{self.proved}/crates/protogate/out/protogate", "proved\n")
-        self.copied, self.read = prove.sums(self.proved), stamp.read_now(".")
         kit.version.cache_clear()
         self.addCleanup(kit.version.cache_clear)
+        self.copied, self.read = prove.sums(self.proved), stamp.read_now(".")
 
     def put_back(self):
         with contextlib.redirect_stdout(io.StringIO()) as said:
@@ -450,7 +456,7 @@ class PutBack(Room):
         self.assertEqual(self.put_back(), (True, ""))
         self.assertEqual((text_of(f"{self.out}/protogate"), text_of(f"{self.out}/protogate.begun")), ("proved\n", self.stamp()))
         self.assertEqual(os.stat(f"{self.out}/protogate.begun").st_mtime_ns, self.read.at)
-        self.assertEqual(sorted(os.listdir(self.out)), ["protogate", "protogate.begun", "protogate.kit", "protogate.sum"])
+        self.assertEqual(sorted(os.listdir(self.out)), ["protogate", "protogate.begun", "protogate.sum"])
 
     def test_nothing_where_a_source_was_changed_added_or_removed(self):
         path = f"{self.top}/crates/low/src/lib.rt"
@@ -465,12 +471,21 @@ class PutBack(Room):
         words += f"[prove.put_back({self.proved!r}, copied, stamp.read_now('.')) or exit(1) for _ in range(20)]"
         runs = [subprocess.Popen([sys.executable, "-Bc", words], cwd=f"{TOP}/tools") for _ in range(2)]
         self.assertEqual([it.wait(timeout=PATIENCE) for it in runs], [0, 0])
-        self.assertEqual(sorted(os.listdir(self.out)), ["protogate", "protogate.begun", "protogate.kit", "protogate.sum"])
+        self.assertEqual(sorted(os.listdir(self.out)), ["protogate", "protogate.begun", "protogate.sum"])
 
-    def test_a_link_stands_for_the_kit_where_it_can_have_no_other_name(self):
-        with mock.patch("os.link", side_effect=PermissionError):
-            self.put_back()
-        self.assertEqual(os.readlink(f"{self.out}/protogate.kit"), os.path.realpath(f"{self.room}/kit/rt"))
+    def test_a_kit_that_is_replaced_meanwhile(self):
+        """What built the program is the kit that was there before."""
+        before = self.stamp()
+        write(f"{self.room}/kit/rt", RT.replace(LINE, "another kit"))
+        kit.version.cache_clear()
+        self.put_back()
+        self.assertEqual(text_of(f"{self.out}/protogate.begun"), before)
+
+    def test_no_link_to_the_kit_is_left(self):
+        """An earlier gate made one, which the kit's own refuses."""
+        os.symlink("/proc/none", f"{self.out}/protogate.kit")
+        self.put_back()
+        self.assertFalse(os.path.lexists(f"{self.out}/protogate.kit"))
 
 
 class Missing(Room):

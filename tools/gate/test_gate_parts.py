@@ -7,6 +7,7 @@ usage: tools/gate/test_gate_parts.py    a few seconds
 
 import glob
 import os
+import re
 import shutil
 import subprocess
 import sys
@@ -149,10 +150,11 @@ class Testers(unittest.TestCase):
 
     def test_each_test_tells_what_it_passes_over(self):
         for it in testers.TESTERS:
-            if "/test_" in it.path:
-                text = text_of(f"{TOP}/tools/{it.path}")
-                self.assertNotIn("unittest.main(", text.rpartition("__main__")[2], it.path)
-                self.assertIn("run_tests", text.rpartition("__main__")[2], it.path)
+            text = text_of(f"{TOP}/tools/{it.path}")
+            if it.path.endswith(".py") and re.search(r"\bunittest\b", text):
+                end = text.rpartition("__main__")[2]
+                self.assertNotRegex(end, r"unittest\.main\((?!.*exit=False)", it.path)
+                self.assertRegex(end, r"run_tests|tell_passed_over", it.path)
 
     def test_each_script_has_a_line_on_the_page(self):
         listed, folder = [], ""
@@ -348,6 +350,17 @@ class PassedOver(Room):
         write(f"{self.room}/tests.py", tests)
         run = subprocess.run([sys.executable, f"{self.room}/tests.py", f"{TOP}/tools/gate"], capture_output=True, text=True, check=False)
         self.assertEqual((run.returncode, run.stdout), (0, "passed over, there is no fish: 1 of the tests of tests.py\n"))
+
+    def test_what_the_tests_of_the_package_pass_over_is_told(self):
+        tests = "import unittest\n\n\n{}\nclass Fish(unittest.TestCase):\n    def test_one(self):\n        self.fail()\n\n    test_two = test_one\n"
+        shutil.copy(f"{TOP}/ci/tests/try_package.py", self.room)
+        os.mkdir(f"{self.room}/hostile")
+        wanted = "passed over, there is no fish: 2 of the tests of try_package.py\n"
+        for name, mark, status in (("fish", "@unittest.skip('there is no fish')", 0), ("fowl", "", 1)):
+            write(f"{self.room}/test_{name}.py", tests.format(mark))
+            words = [sys.executable, "-B", f"{self.room}/try_package.py"]
+            run = subprocess.run(words, capture_output=True, text=True, check=False)
+            self.assertEqual((run.returncode, run.stdout), (status, wanted), run.stderr)
 
 
 if __name__ == "__main__":

@@ -34,40 +34,40 @@ COMPARED = (
 )
 # Words for the script of continuous integration that a hostile change is made of: each file of this folder is a tester. A new one is likely to take
 # as long as these do.
-SECONDS = {"ends": 24, "git": 19, "options": 31, "output": 29, "protoc_sets": 19, "settings": 34, "start": 66, "templates": 9, "texts": 26}
+SECONDS = {"ends": 19, "git": 15, "options": 25, "output": 23, "protoc_sets": 15, "settings": 27, "start": 53, "templates": 9, "texts": 21}
 HOSTILE = tuple(
     Tester(os.path.relpath(it, TOOLS), SECONDS.get(os.path.basename(it)[len("test_") : -len(".py")], 30), (PROGRAM,), ("git",))
     for it in sorted(glob.glob(f"{glob.escape(TOOLS)}/dist/hostile/test_*.py"))
 )
 # What tries the program, the scripts that call it, and the scripts of this repository.
 TESTERS = (
-    Tester("rows/try_program_memory.py", 40, (PROGRAM, UNCHECKED), ("cc",)),
-    Tester("rows/try_call_memory.py", 150, (UNCHECKED, BUILT), ("cc",)),
-    Tester("rows/try_rows.py", 37, (PROGRAM,)),
-    Tester("dist/test_packages.py", 104, (PROGRAM,), ("git",)),
-    Tester("dist/test_ci.py", 58, (PROGRAM,), ("git",)),
-    Tester("dist/test_ci_trees.py", 41, (PROGRAM,), ("git",)),
-    Tester("dist/test_ci_words.py", 32, (PROGRAM,), ("git",)),
-    Tester("dist/test_ci_causes.py", 13, (PROGRAM,), ("git",)),
-    Tester("dist/test_ci_roots.py", 10, (PROGRAM,), ("git",)),
+    Tester("rows/try_program_memory.py", 32, (PROGRAM, UNCHECKED), ("cc",)),
+    Tester("rows/try_call_memory.py", 120, (UNCHECKED, BUILT), ("cc",)),
+    Tester("rows/try_rows.py", 30, (PROGRAM,)),
+    Tester("dist/test_packages.py", 83, (PROGRAM,), ("git",)),
+    Tester("dist/test_ci.py", 46, (PROGRAM,), ("git",)),
+    Tester("dist/test_ci_trees.py", 33, (PROGRAM,), ("git",)),
+    Tester("dist/test_ci_words.py", 26, (PROGRAM,), ("git",)),
+    Tester("dist/test_ci_causes.py", 10, (PROGRAM,), ("git",)),
+    Tester("dist/test_ci_roots.py", 8, (PROGRAM,), ("git",)),
     Tester("dist/test_ci_terminal.py", 4, (PROGRAM,), ("git",)),
     *HOSTILE,
-    Tester("../ci/tests/try_package.py", 130, tools=("git",)),
-    Tester("dist/test_first_answer.py", 44, (PROGRAM, CHECKS), less=("--without-kit",)),
-    Tester("dist/test_first_page.py", 225, (PROGRAM, CHECKS), how=ALONE),
-    Tester("dist/test_kept_program.py", 18, (PROGRAM,)),
+    Tester("../ci/tests/try_package.py", 104, tools=("git",)),
+    Tester("dist/test_first_answer.py", 35, (PROGRAM, CHECKS), less=("--without-kit",)),
+    Tester("dist/test_first_page.py", 180, (PROGRAM, CHECKS), how=ALONE),
+    Tester("dist/test_kept_program.py", 14, (PROGRAM,)),
     Tester("dist/test_launcher.py", 7),
     Tester("docs/test_errors.py", 1),
     Tester("docs/test_plain_words.py", 1),
     Tester("docs/test_costs_table.py", 1),
     Tester("gate/test_wrong_copies.py", 1),
-    Tester("gate/test_gate.py", 12, tools=("git", "cc")),
+    Tester("gate/test_gate.py", 10, tools=("git", "cc")),
     Tester("gate/test_gate_parts.py", 1),
-    Tester("gate/test_tests.py", 10),
-    Tester("gate/test_try_edits.py", 120, (CHECKS,)),
-    Tester("gate/try_other_kit.py", 120, (CHECKS,)),
-    Tester("fuzz/fuzz.py", 240, (PROGRAM,), ("cc",), ALL, ("--count", "1000", "--seconds", "1500")),
-    Tester("docs/try_examples.sh", 10, (PROGRAM,), ("git",), ALONE, ("--without-memory",)),
+    Tester("gate/test_tests.py", 8),
+    Tester("gate/test_try_edits.py", 96, (CHECKS,)),
+    Tester("gate/try_other_kit.py", 96, (CHECKS,)),
+    Tester("fuzz/fuzz.py", 192, (PROGRAM,), ("cc",), ALL, ("--count", "1000", "--seconds", "1500")),
+    Tester("docs/try_examples.sh", 8, (PROGRAM,), ("git",), ALONE, ("--without-memory",)),
 )
 
 
@@ -90,10 +90,3 @@ def is_for_less(tester):
 def without(some, tested):
     """Returns these testers without those that need no program, and are among the ones that passed."""
     return [it for it in some if PROGRAM in it.needs or name_of(it) not in tested]
-
-
-def in_order(some):
-    """Returns these testers as the gate runs them: those that run beside all others, those that check or compile crates, and those that come alone."""
-    beside = [it for it in some if it.how == BESIDE and CHECKS not in it.needs]
-    checking = sorted((it for it in some if it.how == BESIDE and CHECKS in it.needs), key=lambda it: -it.seconds)
-    return beside, checking, [it for it in some if it.how != BESIDE]

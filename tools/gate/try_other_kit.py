@@ -103,10 +103,10 @@ def faults_of_build(top, env):
     if subprocess.run([f"{out}/protogate"], stdin=subprocess.DEVNULL, check=False).returncode != 4:
         found.append("the program that was built is another")
     with open(f"{out}/protogate.begun", encoding="utf-8") as file:
-        line = file.readline()
+        line, _, script, *_ = file.readlines()
     if line != subprocess.run(["rt", "version"], env=env, stdout=subprocess.PIPE, text=True, check=True).stdout:
         found.append(f"the stamp names another kit: {line}")
-    if not os.path.samefile(f"{out}/protogate.kit", f"{TOP}/tools/gate/other_kit/rt"):
+    if not os.path.samefile(script.strip(), f"{TOP}/tools/gate/other_kit/rt"):
         found.append("the stamp's script is another")
     read, made = os.stat(f"{out}/protogate.begun").st_mtime_ns, os.stat(f"{out}/protogate").st_mtime_ns
     if not os.stat(f"{top}/crates/low/src/lib.rt").st_mtime_ns <= read < made:

@@ -7,6 +7,7 @@ again. Where there is none, as with another kit may be, the answer of `rt try` i
 
 import collections
 import contextlib
+import errno
 import fcntl
 import math
 import os
@@ -30,6 +31,8 @@ LEAST_BYTES = 100_000
 ENVIRONMENT = {"ASAN_OPTIONS": "abort_on_error=1"}
 # The words before those of a kept program that give it the stack that `./protogate` gives it.
 UNLIMITED = ("/bin/sh", "-c", 'ulimit -S -s unlimited 2>/dev/null || ulimit -S -s "$(ulimit -H -s)" 2>/dev/null; exec "$@"', "sh")
+# The file beside the folders of kept programs that has the name of the one that counts. A link would keep the kit's own gate from running here.
+NAMED = "unproved.name"
 # Why a call keeps nothing where another one does so at the same time.
 OTHER_KEEPS = "another call keeps one just now"
 # What `rt try` was called with: the crate's folder, the program's words, pairs of a name and a file that the program finds by it, and its input.
@@ -121,6 +124,8 @@ def write_program(number, path):
         one.seek(0)
         shutil.copyfileobj(one, other, 1 << 20)
     os.chmod(path, 0o755)
+    if not os.access(path, os.X_OK):
+        raise PermissionError(errno.EACCES, "no program can be started there", path)
 
 
 class Trial:
@@ -152,23 +157,21 @@ class Trial:
 
     def is_it(self, program, name):
         """Returns whether this is the program: it answers as `rt try` did. Where that ended the program at a limit, its version is of this name."""
-        with contextlib.suppress(OSError):
-            if self.answer.has_ended():
-                return self.said_by(program, self.call.words) == (self.answer.status, self.answer.printed)
-            # (what ran was whole)
-            if name and self.answer.status in (4, 6):
-                return self.said_by(program, ["--version"])[1].startswith(f"{name} ".encode())
-        return False
+        if self.answer.has_ended():
+            return self.said_by(program, self.call.words) == (self.answer.status, self.answer.printed)
+        # (what ran was whole)
+        is_whole = name and self.answer.status in (4, 6)
+        return is_whole and self.said_by(program, ["--version"])[1].startswith(f"{name} ".encode())
 
     def keep(self, path, name=None):
-        """Has what was compiled take the place of a file, at once. Returns whether it did: else the file is as it was."""
-        with contextlib.suppress(OSError):
-            for number in self.found.last_first():
-                with contextlib.suppress(Differs), stamp.replaced(path) as new:
-                    write_program(number, new)
-                    if not self.is_it(new, name):
-                        raise Differs
-                    return True
+        """Has what was compiled take the place of a file, at once. Returns whether it did: else the file is as it was. Raises OSError where nothing can be
+        written or started there."""
+        for number in self.found.last_first():
+            with contextlib.suppress(Differs), stamp.replaced(path) as new:
+                write_program(number, new)
+                if not self.is_it(new, name):
+                    raise Differs
+                return True
         return False
 
 
@@ -187,7 +190,7 @@ def tried(folder, words=(), data=(), stdin=b"", seconds=SECONDS):
 
 def compiled(folder, kept, words=(), data=(), stdin=b"", seconds=SECONDS):
     """Compiles a program, runs it once, as `tried` does, and returns what `rt try` answers. What was compiled takes the place of the file `kept`, at
-    once, if it answers the same again; else `kept` stays as it was, and `is_kept` is false."""
+    once, if it answers the same again; else `kept` stays as it was, and `is_kept` is false. Raises OSError where it can't be kept there."""
     os.makedirs(os.path.dirname(kept), exist_ok=True)
     with tried(folder, words, data, stdin, seconds) as trial:
         return trial.answer._replace(is_kept=trial.keep(kept))
@@ -198,15 +201,15 @@ def alone(folder):
     """Tells whether no other process keeps a program in this folder now."""
     handle = os.open(folder, os.O_RDONLY)
     try:
-        yield has_lock(handle)
+        yield has_lock(handle, fcntl.LOCK_EX | fcntl.LOCK_NB)
     finally:
         os.close(handle)
 
 
-def has_lock(handle):
+def has_lock(handle, how):
     """Locks an open folder, and returns whether no other process has the lock. Some file systems have none."""
     try:
-        fcntl.flock(handle, fcntl.LOCK_EX | fcntl.LOCK_NB)
+        fcntl.flock(handle, how)
     except BlockingIOError:
         return False
     except OSError:
@@ -214,17 +217,43 @@ def has_lock(handle):
     return True
 
 
+def wait_for_others(top):
+    """Waits until no other process keeps a program."""
+    handle = os.open(stamp.out_of(top), os.O_RDONLY)
+    try:
+        has_lock(handle, fcntl.LOCK_SH)
+    finally:
+        os.close(handle)
+
+
+def named_in(out):
+    """Returns the folder of the kept program that counts, or nothing."""
+    with contextlib.suppress(OSError), open(f"{out}/{NAMED}", encoding="utf-8") as file:
+        return f"{out}/{file.read().strip()}"
+    return ""
+
+
 def kept_program(top):
     """Returns the program that `./protogate` starts without proof, where it is of these sources and of this kit, and else None."""
-    path = f"{stamp.out_of(top)}/unproved/{stamp.PROGRAM}"
+    path = f"{named_in(stamp.out_of(top))}/{stamp.PROGRAM}"
     return path if stamp.is_of(path, top) else None
+
+
+def clear(out):
+    """Removes all kept programs but the one that counts, with what earlier scripts left: a link to it."""
+    now = named_in(out)
+    with contextlib.suppress(OSError):
+        os.remove(f"{out}/unproved")
+    for it in (f"{out}/{it}" for it in os.listdir(out) if it.startswith("unproved-")):
+        if it != now:
+            shutil.rmtree(it, ignore_errors=True)
 
 
 def keep_program(top, begun, trial):
     """Keeps the program for later calls of `./protogate`, if its sources are still as they were read, and were so meanwhile. Returns why it didn't, or
-    nothing where it did. A link to a folder of its own is renamed, so no call finds it half there. What was kept of other sources is removed."""
+    nothing where it did. The name of a folder of its own is written at once, so no call finds it half there. What was kept of other sources is
+    removed."""
     out = stamp.out_of(top)
-    link = f"{out}/unproved"
     with alone(out) as is_alone:
         if not is_alone:
             return OTHER_KEEPS
@@ -235,11 +264,8 @@ def keep_program(top, begun, trial):
             os.chmod(room, 0o755)
             if trial.keep(f"{room}/{stamp.PROGRAM}", stamp.PROGRAM):
                 stamp.write(top, begun, room)
-                with stamp.replaced(link) as new:
-                    os.symlink(os.path.basename(room), new)
+                with stamp.replaced(f"{out}/{NAMED}") as new, open(new, "w", encoding="utf-8") as file:
+                    file.write(f"{os.path.basename(room)}\n")
         finally:
-            now = os.path.realpath(link)
-            for it in (f"{out}/{it}" for it in os.listdir(out) if it.startswith("unproved-")):
-                if os.path.realpath(it) != now:
-                    shutil.rmtree(it, ignore_errors=True)
-        return "" if os.path.realpath(room) == now else "`rt try` left no program that answers again"
+            clear(out)
+        return "" if room == named_in(out) else "`rt try` left no program that answers again"
